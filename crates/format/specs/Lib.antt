@@ -1,0 +1,13 @@
+pub mod Bytes
+pub mod Limits
+pub mod Refusals
+pub mod Items
+pub mod Chunks
+pub mod Mesh
+pub mod Surfaces
+pub mod Bodies
+pub mod Rules
+pub mod Answer
+pub mod Canonical
+pub mod Written
+pub mod Worked

@@ -1,0 +1,115 @@
+-- Surfaces: the sub-chunks of a SURF, by kind of file and level, and the record that their values make.
+use Prim.Native.Nat.{ℕ, _/_, _%_, _^_}
+use Prim.Native.String.{String}
+use mathlib.Core.List.{List, [], _∷_, map}
+use mathlib.Core.Bool.{Bool, _||_}
+use lib.ListN.{take, getD}
+use lib.Dec.{eqb}
+use Rattle.format.specs.declared.Fault.the-variants.{SurfaceValue}
+use Rattle.format.specs.Bytes.{if_then_else_, _is_, over255, over256, one, empty}
+use Rattle.format.specs.Items.{fault, Reader, _>>=_, give, _or_unless_, many, item, u2, i2, float, vx, string}
+use Rattle.format.specs.Chunks.{Kind, LWOB, LWO2, headerOf, sub, fixed, unjudged}
+use Rattle.format.specs.Mesh.{Surface, missing}
+
+-- a listed sub-chunk: its tag and the words that it gives
+pub record Value : Type 0 where
+  pub tag : ℕ
+  pub words : List ℕ
+
+abbrev pub value : ℕ → List ℕ → List Value
+value t words = record { tag = t; words = words } ∷ []
+
+-- "Unlisted tags are skipped."
+abbrev pub unlisted : Reader (List Value)
+unlisted = unjudged []
+
+abbrev pub level : ℕ → Bool
+level t = t is "LUMI" || t is "DIFF" || t is "SPEC" || t is "REFL" || t is "TRAN"
+
+-- ---- LWOB
+
+abbrev pub floatLevel : ℕ → Bool
+floatLevel t = t is "VLUM" || t is "VDIF" || t is "VSPC" || t is "VRFL" || t is "VTRN"
+
+-- "COLR has 4 bytes: each of the first three divided by 255, rounded once; the fourth isn't judged. LUMI, DIFF, SPEC, REFL, TRAN (2 bytes, signed): n
+-- divided by 256. 003 tells of old REFL and SPEC of length 4; they are 6 (house). VLUM, VDIF, VSPC, VRFL, VTRN (4 bytes): the float. FLAG (2 bytes)."
+unfoldable pub lwobValue : (tag : ℕ) → Reader (List Value)
+lwobValue t =
+    if t is "COLR" then fixed 4 (do bytes ← item 4; give (value t (map over255 (take 3 bytes))))
+    else if level t then fixed 2 (do n ← i2; give (value t (over256 n ∷ [])))
+    else if floatLevel t then fixed 4 (do x ← float; give (value t (x ∷ [])))
+    else if t is "FLAG" then fixed 2 (do n ← u2; give (value t (n ∷ [])))
+    else unlisted
+
+-- ---- LWO2: "the nesting is checked level by level, to a depth of at most four counting SURF's own sub-chunks as level two"
+
+-- level four, in a block header or a TMAP: none is listed there
+unfoldable pub unlistedSubs : Reader (List Value)
+unlistedSubs = do vs ← many (sub (λ t. unlisted)); give []
+
+-- level three: "its first sub-chunk is IMAP, PROC, GRAD or SHDR, holding a string and then sub-chunks"; another is the fault of BLOK's header
+abbrev pub blockType : ℕ → Bool
+blockType t = t is "IMAP" || t is "PROC" || t is "GRAD" || t is "SHDR"
+
+unfoldable pub blockHeader : (blok tag : ℕ) → Reader (List Value)
+blockHeader blok t = if blockType t then (do ordinal ← string; unlistedSubs) else (λ at s. fault SurfaceValue blok)
+
+-- "a later one is unlisted"; "a TMAP directly in a BLOK holds sub-chunks"
+unfoldable pub blockSub : (tag : ℕ) → Reader (List Value)
+blockSub t = if t is "TMAP" then unlistedSubs else unlisted
+
+-- 15: "BLOK empty or with another first sub-chunk"
+unfoldable pub block : Reader (List Value)
+block at s =
+    if empty s then fault SurfaceValue (headerOf 2 at) else (do h ← sub (blockHeader (headerOf 2 at)); vs ← many (sub blockSub); give []) at s
+
+-- 15: "SIDE neither 1 nor 3"
+abbrev pub sideNumber : ℕ → Bool
+sideNumber n = eqb n 1 || eqb n 3
+
+-- level two: "COLR: three floats and a VX. DIFF, LUMI, SPEC, REFL, TRAN: float and VX. SIDE: U2. Bodies are used up exactly; the VX is dropped."
+unfoldable pub lwo2Value : (tag : ℕ) → Reader (List Value)
+lwo2Value t =
+    if t is "COLR" then (do r ← float; g ← float; b ← float; envelope ← vx; give (value t (r ∷ g ∷ b ∷ [])))
+    else if level t then (do x ← float; envelope ← vx; give (value t (x ∷ [])))
+    else if t is "SIDE" then fixed 2 (do n ← u2 or SurfaceValue unless sideNumber; give (value t (n ∷ [])))
+    else if t is "BLOK" then block
+    else unlisted
+
+-- ---- the record
+
+-- "a repeated sub-chunk's last value stands": word i of the last value with that tag, or `now` where there is none
+unfoldable pub last : List Value → (tag : String) (i now : ℕ) → ℕ
+last [] tag i now = now
+last (v ∷ vs) tag i now = last vs tag i (if v .tag is tag then getD (v .words) i now else now)
+
+abbrev pub bit : ℕ → ℕ → Bool
+bit i n = eqb (n / 2 ^ i % 2) 1
+
+-- LWOB: the float "wins over the short form in either order. FLAG: bit 8 gives sides 3; bit 0 gives luminosity 1.0 if neither LUMI nor VLUM is there.
+-- Missing levels but colour are 0, sides 1." LWO2: "Missing: diffuse 1.0, other levels but colour 0, sides 1", as in `missing`.
+unfoldable pub recordOf : Kind → List Value → Surface
+recordOf LWOB vs = record {
+  defined = 1;
+  red = last vs "COLR" 0 (missing .red);
+  green = last vs "COLR" 1 (missing .green);
+  blue = last vs "COLR" 2 (missing .blue);
+  diffuse = last vs "VDIF" 0 (last vs "DIFF" 0 0);
+  luminosity = last vs "VLUM" 0 (last vs "LUMI" 0 (if bit 0 (last vs "FLAG" 0 0) then one else 0));
+  specular = last vs "VSPC" 0 (last vs "SPEC" 0 0);
+  reflection = last vs "VRFL" 0 (last vs "REFL" 0 0);
+  transparency = last vs "VTRN" 0 (last vs "TRAN" 0 0);
+  sides = if bit 8 (last vs "FLAG" 0 0) then 3 else 1;
+}
+recordOf LWO2 vs = record {
+  defined = 1;
+  red = last vs "COLR" 0 (missing .red);
+  green = last vs "COLR" 1 (missing .green);
+  blue = last vs "COLR" 2 (missing .blue);
+  diffuse = last vs "DIFF" 0 (missing .diffuse);
+  luminosity = last vs "LUMI" 0 (missing .luminosity);
+  specular = last vs "SPEC" 0 (missing .specular);
+  reflection = last vs "REFL" 0 (missing .reflection);
+  transparency = last vs "TRAN" 0 (missing .transparency);
+  sides = last vs "SIDE" 0 (missing .sides);
+}
