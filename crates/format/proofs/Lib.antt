@@ -1,0 +1,6 @@
+pub mod Saying
+pub mod Entries
+pub mod Sounding
+pub mod Places
+pub mod Strings
+pub mod Puts

@@ -1,0 +1,113 @@
+-- The items of a body by their place: what each reader says there, from the bytes that stand there. Assumes nothing.
+use mathlib.Core.Path.{_≡_, refl, sym, ap, _∙_}
+use mathlib.Core.List.{List, [], _∷_}
+use mathlib.Core.Bool.{Bool, true, false}
+use Prim.Native.Nat.{ℕ, suc, _+_, _-_, _*_, _%_, _≤_, _<_}
+use native.Mathlib.Numerals.{add-one}
+use native.Mathlib.Omega.{arith}
+use lib.Dec.{ltb, eqb}
+use lib.IntN.{ℤ}
+use lib.ListN.{length, getD, take, drop, length-drop, drop-of-length-le, List·getD-eq-default}
+use lib.Seq.{drop-cons, drop-drop}
+use borrow.Author.Tests.{le-leb, lt-leb, eq-eqb, ne-eqb, ltb-true, ltb-false}
+use Rattle.format.specs.declared.Fault.the-variants.{ItemCut, NotFinite}
+use Rattle.format.specs.Bytes.{number, signed, finite}
+use Rattle.format.specs.Items.{Verdict, Got, fault, _then_, _>>=_, _or_unless_, item, uint, u2, u4, i2, vx, float, long}
+use Rattle.format.specs.Said.{ReadsAt, taking, got, twoBytes}
+use Rattle.format.proofs.Saying.{exact, exactly}
+
+-- ---- numbers
+
+module _ (n at : ℕ) (s : List ℕ) where
+  pub cut : length s - at < n → fault ItemCut at ≡ uint n at (drop at s)
+  unfolding uint item _then_ _>>=_
+  cut h =
+      let short : length (drop at s) < n = rw length-drop (omega arith) in
+      rw (lt-leb n (length (drop at s)) short)
+
+  pub whole : at + n ≤ length s → got s (number (take n (drop at s))) (at + n) ≡ uint n at (drop at s)
+  unfolding uint item _then_ _>>=_
+  whole h =
+      let long : n ≤ length (drop at s) = rw length-drop (omega arith) in
+      rw (le-leb n (length (drop at s)) long, drop-drop n at s)
+
+pub two-is : (s : List ℕ) (at : ℕ) → at + 2 ≤ length s → number (take 2 (drop at s)) ≡ twoBytes s at
+unfolding number
+two-is s at h =
+    let a : at < length s = omega arith in
+    let b : suc at < length s = omega arith in
+    rw (drop-cons s at 0 a, drop-cons s (suc at) 0 b, add-one) (omega arith)
+
+pub four-is : (s : List ℕ) (at : ℕ) → at + 4 ≤ length s → number (take 4 (drop at s)) ≡ twoBytes s at * 65536 + twoBytes s (at + 2)
+unfolding number
+four-is s at h =
+    let a : at < length s = omega arith in
+    let b : suc at < length s = omega arith in
+    let c : suc (suc at) < length s = omega arith in
+    let d : suc (suc (suc at)) < length s = omega arith in
+    let e : at + 1 ≡ suc at = omega arith in
+    let f : at + 2 ≡ suc (suc at) = omega arith in
+    let g : suc (suc at) + 1 ≡ suc (suc (suc at)) = omega arith in
+    rw (drop-cons s at 0 a, drop-cons s (suc at) 0 b, drop-cons s (suc (suc at)) 0 c, drop-cons s (suc (suc (suc at))) 0 d, e, f, g) (omega arith)
+
+-- ---- items
+
+-- which of the two forms a VX has, by its first byte
+is-long : (s : List ℕ) (at b : ℕ) → b ≡ getD s at 0 → long (drop at s) ≡ eqb b 255
+is-long s at b e = by (ltb at (length s)) refl
+  where
+    by : (t : Bool) → ltb at (length s) ≡ t → long (drop at s) ≡ eqb b 255
+    by true h = rw (drop-cons s at 0 (ltb-true at (length s) h), e)
+    by false h =
+        let past : length s ≤ at = ltb-false at (length s) h in
+        let z : b ≡ 0 = e ∙ List·getD-eq-default s 0 past in
+        rw (drop-of-length-le s {i = at} past, z)
+
+module _ {s : List ℕ} {at : ℕ} where
+  pub u2-cut : length s - at < 2 → ReadsAt u2 (taking 2) s at (fault ItemCut at)
+  u2-cut h = record { says = exact (cut 2 at s h); moves = tt }
+
+  pub u2-whole : {v : ℕ} → 2 ≤ length s - at → v ≡ twoBytes s at → ReadsAt u2 (taking 2) s at (got s v (at + 2))
+  u2-whole h e =
+      let fits : at + 2 ≤ length s = omega arith in
+      record { says = exact (rw (e, ← two-is s at fits) (whole 2 at s fits)); moves = omega arith }
+
+  pub u4-cut : length s - at < 4 → ReadsAt u4 (taking 4) s at (fault ItemCut at)
+  u4-cut h = record { says = exact (cut 4 at s h); moves = tt }
+
+  pub u4-whole : {a b : ℕ} → 4 ≤ length s - at → a ≡ twoBytes s at → b ≡ twoBytes s (at + 2) → ReadsAt u4 (taking 4) s at (got s (a * 65536 + b) (at + 4))
+  u4-whole h e f =
+      let fits : at + 4 ≤ length s = omega arith in
+      record { says = exact (rw (e, f, ← four-is s at fits) (whole 4 at s fits)); moves = omega arith }
+
+  pub i2-cut : length s - at < 2 → ReadsAt i2 (taking 2) s at (fault ItemCut at)
+  unfolding i2 _then_ _>>=_
+  i2-cut h = record { says = exact (rw (← cut 2 at s h)); moves = tt }
+
+  pub i2-whole : {v : ℕ} {z : ℤ} → 2 ≤ length s - at → v ≡ twoBytes s at → z ≡ signed v → ReadsAt i2 (taking 2) s at (got s z (at + 2))
+  unfolding i2 _then_ _>>=_
+  i2-whole h e f = record { says = exact (rw (exactly (u2-whole h e .says), f)); moves = omega arith }
+
+  pub float-cut : ReadsAt u4 (taking 4) s at (fault ItemCut at) → ReadsAt float (taking 4) s at (fault ItemCut at)
+  unfolding float _then_ _or_unless_
+  float-cut r = record { says = exact (rw (exactly (r .says))); moves = tt }
+
+  pub float-is : {v nx : ℕ} → ReadsAt u4 (taking 4) s at (got s v nx) → finite v ≡ true → ReadsAt float (taking 4) s at (got s v nx)
+  unfolding float _then_ _or_unless_
+  float-is r e = record { says = exact (rw (exactly (r .says), e)); moves = r .moves }
+
+  pub float-bad : {v nx : ℕ} → ReadsAt u4 (taking 4) s at (got s v nx) → finite v ≡ false → ReadsAt float (taking 4) s at (fault NotFinite at)
+  unfolding float _then_ _or_unless_
+  float-bad r e = record { says = exact (rw (exactly (r .says), e)); moves = tt }
+
+  pub vx-cut : {b : ℕ} → b ≡ getD s at 0 → b ≡ 255 → ReadsAt u4 (taking 4) s at (fault ItemCut at) → ReadsAt vx (taking 2) s at (fault ItemCut at)
+  unfolding vx _then_ _>>=_
+  vx-cut e f r = record { says = exact (rw (is-long s at _ e, eq-eqb _ 255 f, exactly (r .says))); moves = tt }
+
+  pub vx-long : {b v nx : ℕ} → b ≡ getD s at 0 → b ≡ 255 → ReadsAt u4 (taking 4) s at (got s v nx) → ReadsAt vx (taking 2) s at (got s (v % 16777216) nx)
+  unfolding vx _then_ _>>=_
+  vx-long e f r = record { says = exact (rw (is-long s at _ e, eq-eqb _ 255 f, exactly (r .says))); moves = omega (arith, r .moves) }
+
+  pub vx-short : {b : ℕ} {answer : Verdict (Got ℕ)} → b ≡ getD s at 0 → (b ≡ 255 → ⊥) → ReadsAt u2 (taking 2) s at answer → ReadsAt vx (taking 2) s at answer
+  unfolding vx
+  vx-short e f r = record { says = exact (rw (is-long s at _ e, ne-eqb _ 255 f) (sym (exactly (r .says)))); moves = r .moves }
