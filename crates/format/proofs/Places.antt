@@ -13,44 +13,43 @@ use borrow.Author.Tests.{le-leb, lt-leb, eq-eqb, ne-eqb, ltb-true, ltb-false}
 use Rattle.format.specs.declared.Fault.the-variants.{ItemCut, NotFinite}
 use Rattle.format.specs.Bytes.{number, signed, finite}
 use Rattle.format.specs.Items.{Verdict, Got, fault, _then_, _>>=_, _or_unless_, item, uint, u2, u4, i2, vx, float, long}
-use Rattle.format.specs.Said.{ReadsAt, taking, got, twoBytes}
+use Rattle.format.specs.Said.{ReadsAt, taking, got}
 use Rattle.format.proofs.Saying.{exact, exactly}
 
--- ---- numbers
+-- ---- numbers of any width
 
-module _ (n at : ℕ) (s : List ℕ) where
-  pub cut : length s - at < n → fault ItemCut at ≡ uint n at (drop at s)
+module _ (n : ℕ) {s : List ℕ} {at : ℕ} where
+  pub uint-cut : length s - at < n → ReadsAt (uint n) (taking n) s at (fault ItemCut at)
   unfolding uint item _then_ _>>=_
-  cut h =
+  uint-cut h =
       let short : length (drop at s) < n = rw length-drop (omega arith) in
-      rw (lt-leb n (length (drop at s)) short)
+      record { says = exact (rw (lt-leb n (length (drop at s)) short)); moves = tt }
 
-  pub whole : at + n ≤ length s → got s (number (take n (drop at s))) (at + n) ≡ uint n at (drop at s)
+  pub uint-whole : {v : ℕ} → at + n ≤ length s → v ≡ number (take n (drop at s)) → ReadsAt (uint n) (taking n) s at (got s v (at + n))
   unfolding uint item _then_ _>>=_
-  whole h =
+  uint-whole h is =
       let long : n ≤ length (drop at s) = rw length-drop (omega arith) in
-      rw (le-leb n (length (drop at s)) long, drop-drop n at s)
+      record { says = exact (rw (le-leb n (length (drop at s)) long, drop-drop n at s, is)); moves = omega arith }
 
-pub two-is : (s : List ℕ) (at : ℕ) → at + 2 ≤ length s → number (take 2 (drop at s)) ≡ twoBytes s at
+-- the bytes of a number, the high one first
+pub two-is : (s : List ℕ) (at : ℕ) → at + 2 ≤ length s → number (take 2 (drop at s)) ≡ getD s at 0 * 256 + getD s (at + 1) 0
 unfolding number
 two-is s at h =
     let a : at < length s = omega arith in
     let b : suc at < length s = omega arith in
     rw (drop-cons s at 0 a, drop-cons s (suc at) 0 b, add-one) (omega arith)
 
-pub four-is : (s : List ℕ) (at : ℕ) → at + 4 ≤ length s → number (take 4 (drop at s)) ≡ twoBytes s at * 65536 + twoBytes s (at + 2)
+pub four-is : (s : List ℕ) (at : ℕ) → at + 4 ≤ length s → number (take 4 (drop at s)) ≡ number (take 2 (drop at s)) * 65536 + number (take 2 (drop (at + 2) s))
 unfolding number
 four-is s at h =
     let a : at < length s = omega arith in
     let b : suc at < length s = omega arith in
     let c : suc (suc at) < length s = omega arith in
     let d : suc (suc (suc at)) < length s = omega arith in
-    let e : at + 1 ≡ suc at = omega arith in
-    let f : at + 2 ≡ suc (suc at) = omega arith in
-    let g : suc (suc at) + 1 ≡ suc (suc (suc at)) = omega arith in
-    rw (drop-cons s at 0 a, drop-cons s (suc at) 0 b, drop-cons s (suc (suc at)) 0 c, drop-cons s (suc (suc (suc at))) 0 d, e, f, g) (omega arith)
+    let e : at + 2 ≡ suc (suc at) = omega arith in
+    rw (e, drop-cons s at 0 a, drop-cons s (suc at) 0 b, drop-cons s (suc (suc at)) 0 c, drop-cons s (suc (suc (suc at))) 0 d) (omega arith)
 
--- ---- items
+-- ---- the other items, from the numbers that they are
 
 -- which of the two forms a VX has, by its first byte
 is-long : (s : List ℕ) (at b : ℕ) → b ≡ getD s at 0 → long (drop at s) ≡ eqb b 255
@@ -64,29 +63,13 @@ is-long s at b e = by (ltb at (length s)) refl
         rw (drop-of-length-le s {i = at} past, z)
 
 module _ {s : List ℕ} {at : ℕ} where
-  pub u2-cut : length s - at < 2 → ReadsAt u2 (taking 2) s at (fault ItemCut at)
-  u2-cut h = record { says = exact (cut 2 at s h); moves = tt }
-
-  pub u2-whole : {v : ℕ} → 2 ≤ length s - at → v ≡ twoBytes s at → ReadsAt u2 (taking 2) s at (got s v (at + 2))
-  u2-whole h e =
-      let fits : at + 2 ≤ length s = omega arith in
-      record { says = exact (rw (e, ← two-is s at fits) (whole 2 at s fits)); moves = omega arith }
-
-  pub u4-cut : length s - at < 4 → ReadsAt u4 (taking 4) s at (fault ItemCut at)
-  u4-cut h = record { says = exact (cut 4 at s h); moves = tt }
-
-  pub u4-whole : {a b : ℕ} → 4 ≤ length s - at → a ≡ twoBytes s at → b ≡ twoBytes s (at + 2) → ReadsAt u4 (taking 4) s at (got s (a * 65536 + b) (at + 4))
-  u4-whole h e f =
-      let fits : at + 4 ≤ length s = omega arith in
-      record { says = exact (rw (e, f, ← four-is s at fits) (whole 4 at s fits)); moves = omega arith }
-
-  pub i2-cut : length s - at < 2 → ReadsAt i2 (taking 2) s at (fault ItemCut at)
+  pub i2-cut : ReadsAt u2 (taking 2) s at (fault ItemCut at) → ReadsAt i2 (taking 2) s at (fault ItemCut at)
   unfolding i2 _then_ _>>=_
-  i2-cut h = record { says = exact (rw (← cut 2 at s h)); moves = tt }
+  i2-cut r = record { says = exact (rw (exactly (r .says))); moves = tt }
 
-  pub i2-whole : {v : ℕ} {z : ℤ} → 2 ≤ length s - at → v ≡ twoBytes s at → z ≡ signed v → ReadsAt i2 (taking 2) s at (got s z (at + 2))
+  pub i2-whole : {v nx : ℕ} {z : ℤ} → ReadsAt u2 (taking 2) s at (got s v nx) → z ≡ signed v → ReadsAt i2 (taking 2) s at (got s z nx)
   unfolding i2 _then_ _>>=_
-  i2-whole h e f = record { says = exact (rw (exactly (u2-whole h e .says), f)); moves = omega arith }
+  i2-whole r f = record { says = exact (rw (exactly (r .says), f)); moves = r .moves }
 
   pub float-cut : ReadsAt u4 (taking 4) s at (fault ItemCut at) → ReadsAt float (taking 4) s at (fault ItemCut at)
   unfolding float _then_ _or_unless_

@@ -1,9 +1,9 @@
 -- How a contract cites the rule book: what a reader says at a place of a slice, what a whole body is judged to be, and what a table holds after words
 -- were put into it. The slice is a chunk's bytes from its tag on, so that an index of it is a place.
-use Prim.Native.Nat.{ℕ, _+_, _*_, _≤_}
+use Prim.Native.Nat.{ℕ, _+_, _≤_}
 use mathlib.Core.Path.{_≡_}
 use mathlib.Core.List.{List, _++_}
-use lib.ListN.{length, getD, take, drop}
+use lib.ListN.{length, take, drop}
 use Rattle.format.specs.Items.{Verdict, fine, fault, _then_, Got, Reader, give, whole}
 
 -- ---- readers
@@ -42,9 +42,6 @@ pub record Keeps {A B : Type 0} (r : Reader A) (h : A → B) (size : B → ℕ) 
 -- all of the value is kept
 abbrev pub ReadsAt : {A : Type 0} → Reader A → (size : A → ℕ) → List ℕ → ℕ → Verdict (Got A) → Type 0
 ReadsAt r size s at answer = Keeps r itself size s at answer
-
-abbrev pub twoBytes : List ℕ → ℕ → ℕ
-twoBytes s at = getD s at 0 * 256 + getD s (at + 1) 0
 
 -- ---- bodies
 

@@ -1,0 +1,30 @@
+use borrow.Author.Needs.{needs}
+use Rattle.format.proofs.Places.{vx-cut, vx-long, vx-short}
+use Rattle.wire.proofs.cursor.Cursor.vx.Statement.{statement}
+use Rattle.wire.proofs.cursor.Cursor.vx.Tie as tie
+
+returns : tie.Need-returns
+returns c =
+    let u = c .before .before in
+    vx-cut (u .before .before .byte .ensures) (u .before .if1 .taken) (rw (c .enum-told .given .1) at (u .u4 .ensures))
+
+returns-2 : tie.Need-returns-2
+returns-2 c =
+    let u = c .before .before .before in
+    vx-long (u .before .before .byte .ensures) (u .before .if1 .taken) (rw (c .before .n .given .1) at (u .u4 .ensures))
+
+returns-3 : tie.Need-returns-3
+returns-3 c = vx-short (c .before .before .byte .ensures) (c .before .if1 .left) (c .u2 .ensures)
+
+pub vx-spec : {M : Type 1} → statement M
+vx-spec =
+    tie.close
+    (tie.spec
+    (λ c κs. search needs)
+    (λ c κs. search needs)
+    (λ c. search needs)
+    (λ c. search needs)
+    returns
+    returns-2
+    (λ c κs. search needs)
+    returns-3)

@@ -1,0 +1,90 @@
+-- What the answers of items and headers say, in the rule book's words. `s` is the lent slice, and `at` the place that was read at.
+use Prim.Native.Nat.{ℕ, _+_, _≤_, _<_, _^_}
+use mathlib.Core.Path.{_≡_}
+use mathlib.Core.Bool.{true}
+use mathlib.Core.List.{List}
+use lib.ListN.{length, take, drop}
+use lib.IntN.{ℤ}
+use Rattle.format.specs.declared.Fault.the-variants.{BadHeader, ItemCut, StringOpen}
+use Rattle.format.specs.Bytes.{absolute, negative, between, all}
+use Rattle.format.specs.Items.{Verdict, fault, Got, Reader, i2, string}
+use Rattle.format.specs.Chunks.{Chunk, lengthOf, chunkOf}
+use Rattle.format.specs.Said.{got, Keeps, ReadsAt, taking, nameSize}
+use Rattle.wire.specs.declared.cursor.Cursor.{Cursor}
+use Rattle.wire.specs.declared.cursor.Number.{Number}
+use Rattle.wire.specs.declared.cursor.Signed.{Signed}
+use Rattle.wire.specs.declared.cursor.Sign.{Sign}
+use Rattle.wire.specs.declared.cursor.Signs.{Signs}
+use Rattle.wire.specs.declared.cursor.Item.{Item}
+use Rattle.wire.specs.declared.cursor.Text.{Text}
+use Rattle.wire.specs.declared.header.Header.{Header}
+
+-- ---- items
+
+abbrev pub numberAs : List ℕ → ℕ → Number → Verdict (Got ℕ)
+numberAs s at (Number.Got v c) = got s v (c .at)
+numberAs s at Number.Cut = fault ItemCut at
+
+-- a number read by r, of so many bytes at least
+abbrev pub NumberAt : Reader ℕ → (size : ℕ) → List ℕ → ℕ → Number → Type 0
+NumberAt r size s at answer = ReadsAt r (taking size) s at (numberAs s at answer)
+
+abbrev pub signedAs : List ℕ → ℕ → Signed → Verdict (Got ℤ)
+signedAs s at (Signed.Got z c) = got s z (c .at)
+signedAs s at Signed.Cut = fault ItemCut at
+
+abbrev pub SignedAt : List ℕ → ℕ → Signed → Type 0
+SignedAt s at answer = ReadsAt i2 (taking 2) s at (signedAs s at answer)
+
+abbrev pub signOf : ℤ → Sign
+signOf z = record { number = absolute z; negative = negative z }
+
+abbrev pub signAs : List ℕ → ℕ → Signs → Verdict (Got Sign)
+signAs s at (Signs.Got x c) = got s x (c .at)
+signAs s at Signs.Cut = fault ItemCut at
+
+abbrev pub SignAt : List ℕ → ℕ → Signs → Type 0
+SignAt s at answer = Keeps i2 signOf (taking 2) s at (signAs s at answer)
+
+abbrev pub itemAs : List ℕ → ℕ → Item → Verdict (Got ℕ)
+itemAs s at (Item.Got v c) = got s v (c .at)
+itemAs s at (Item.Stop why) = fault why at
+
+-- a judged item read by r, of so many bytes at least
+abbrev pub ItemAt : Reader ℕ → (size : ℕ) → List ℕ → ℕ → Item → Type 0
+ItemAt r size s at answer = ReadsAt r (taking size) s at (itemAs s at answer)
+
+-- a name, which stands in the slice from the place on
+abbrev pub textAs : List ℕ → ℕ → Text → Verdict (Got (List ℕ))
+textAs s at (Text.Got n c) = got s (take n (drop at s)) (c .at)
+textAs s at Text.Open = fault StringOpen at
+
+abbrev pub TextInside : List ℕ → Text → Type 0
+TextInside s (Text.Got n c) = c .at ≤ length s
+TextInside s Text.Open = Unit
+
+pub record TextAt (s : List ℕ) (at : ℕ) (answer : Text) : Type 0 where
+  pub reads : ReadsAt string nameSize s at (textAs s at answer)
+  pub inside : TextInside s answer
+
+-- ---- headers
+
+-- A chunk's body is lent as the slice up to its end, `&s[..end]`, so that its places stay what they are.
+abbrev pub headerAs : (width : ℕ) → List ℕ → ℕ → Header → Verdict (Got Chunk)
+headerAs width s at (Header.Got tag end c) = got s (record { tag = tag; body = drop (at + (4 + width)) (take end s) }) (c .at)
+headerAs width s at Header.Bad = fault BadHeader at
+
+abbrev pub HeaderInside : (width : ℕ) → List ℕ → ℕ → Header → Type 0
+HeaderInside width s at (Header.Got tag end c) = (at + (4 + width) ≤ end) × (end ≤ c .at) × (c .at ≤ length s)
+HeaderInside width s at Header.Bad = Unit
+
+pub record HeaderAt (width : ℕ) (s : List ℕ) (at : ℕ) (answer : Header) : Type 0 where
+  pub reads : ReadsAt (chunkOf width) (taking (4 + width)) s at (headerAs width s at answer)
+  pub inside : HeaderInside width s at answer
+
+-- the tag at a place is good, and its chunk's length is n
+pub record HeadRead (width : ℕ) (s : List ℕ) (at n : ℕ) : Type 0 where
+  pub there : at + (4 + width) ≤ length s
+  pub tag : all (between 32 126) (take 4 (drop at s)) ≡ true
+  pub is : lengthOf width (drop at s) ≡ n
+  pub few : n < 2 ^ 32

@@ -1,0 +1,224 @@
+// The items of a body, read at a place. A cursor may stand anywhere: beyond the end there is nothing to read.
+ghost use mathlib.Core.Path.{_≡_};
+ghost use Prim.Native.Nat.{_+_, _-_, _≤_, _<_};
+ghost use lib.ListN.{length, getD, take, drop};
+ghost use Rattle.format.specs.Bytes.{signed, finite, number};
+ghost use Rattle.format.specs.Items.{u2, u4, vx, float, toZero};
+ghost use Rattle.wire.specs.Answers.{signOf, NumberAt, SignedAt, SignAt, ItemAt, TextAt};
+use format::Fault;
+
+pub struct Cursor {
+    pub at: usize,
+}
+
+// U2, U4 or VX: the number and the moved cursor, or that the item is cut.
+pub enum Number {
+    Got(u32, Cursor),
+    Cut,
+}
+
+// I2
+pub enum Signed {
+    Got(i16, Cursor),
+    Cut,
+}
+
+// A surface number of an LWOB file: its absolute value, and whether it was negative.
+pub struct Sign {
+    pub number: u32,
+    pub negative: bool,
+}
+
+pub enum Signs {
+    Got(Sign, Cursor),
+    Cut,
+}
+
+// An item whose value is judged too. Its fault is at the cursor that it was read by.
+pub enum Item {
+    Got(u32, Cursor),
+    Stop(Fault),
+}
+
+// A string: how long the name is, which starts at the cursor that it was read by.
+pub enum Text {
+    Got(usize, Cursor),
+    Open,
+}
+
+// A byte in the wider type, with its bound.
+fn wide(x: u8) -> u16
+    ensures { λ r. ⌜ (r ≡ x) × (r < 256) ⌝ }
+{
+    x as u16
+}
+
+// How many bytes there are from a place on: none from a place beyond the end.
+pub fn left(s: &[u8], at: usize) -> usize
+    ensures { λ r. ⌜ r ≡ length (now (s .entry)) - at ⌝ }
+{
+    if at < s.len() { s.len() - at } else { 0 }
+}
+
+// The byte at a place, 0 beyond the end.
+fn byte(s: &[u8], at: usize) -> u8
+    ensures { λ r. ⌜ r ≡ getD (now (s .entry)) at 0 ⌝ }
+{
+    if at < s.len() { s[at] } else { 0 }
+}
+
+// The number of the two bytes at a place, the high one first.
+pub fn pair(s: &[u8], at: usize) -> u16
+    requires { ⌜ at + 2 ≤ length (now s) ⌝ }
+    ensures { λ r. ⌜ r ≡ number (take 2 (drop at (now (s .entry)))) ⌝ }
+{
+    wide(s[at]) * 256 + wide(s[at + 1])
+}
+
+// The number of the four bytes at a place, the high one first.
+pub fn word(s: &[u8], at: usize) -> u32
+    requires { ⌜ at + 4 ≤ length (now s) ⌝ }
+    ensures { λ r. ⌜ r ≡ number (take 4 (drop at (now (s .entry)))) ⌝ }
+{
+    let high = pair(s, at) as u32;
+    let low = pair(s, at + 2) as u32;
+    high * 65536 + low
+}
+
+// The signed number that sixteen bits stand for.
+fn signed16(n: u16) -> i16
+    ensures { λ r. ⌜ r ≡ signed n ⌝ }
+{
+    if n < 32768 {
+        n as i16
+    } else {
+        (n as i32 - 65536) as i16
+    }
+}
+
+// The sign decides, and the number is negated only in the wider type: -32,768 stands for 32,768.
+fn sign_of(z: i16) -> Sign
+    ensures { λ r. ⌜ r ≡ signOf z ⌝ }
+{
+    let wide = z as i32;
+    if wide < 0 {
+        Sign {
+            number: -wide as u32,
+            negative: true,
+        }
+    } else {
+        Sign {
+            number: wide as u32,
+            negative: false,
+        }
+    }
+}
+
+// The eight exponent bits are not all ones.
+pub fn is_finite(bits: u32) -> bool
+    ensures { λ r. ⌜ r ≡ finite bits ⌝ }
+{
+    bits / 8388608 % 256 != 255
+}
+
+// The place of the first zero byte from a place on, or the end.
+fn terminator(s: &[u8], at: usize) -> usize
+    ensures { λ r. ⌜ r ≡ at + toZero (drop at (now (s .entry))) ⌝ }
+{
+    let mut n = at;
+    let end = loop {
+        if s.len() <= n {
+            break n;
+        }
+        if s[n] == 0 {
+            break n;
+        }
+        n += 1;
+    };
+    end
+}
+
+impl Cursor {
+    pub fn u2(self, s: &[u8]) -> Number
+        ensures { λ r. ⌜ NumberAt u2 2 (now (s .entry)) (self .at) r ⌝ }
+    {
+        let at = self.at;
+        if left(s, at) < 2 {
+            return Number::Cut;
+        }
+        Number::Got(pair(s, at) as u32, Cursor { at: at + 2 })
+    }
+
+    pub fn u4(self, s: &[u8]) -> Number
+        ensures { λ r. ⌜ NumberAt u4 4 (now (s .entry)) (self .at) r ⌝ }
+    {
+        let at = self.at;
+        if left(s, at) < 4 {
+            return Number::Cut;
+        }
+        Number::Got(word(s, at), Cursor { at: at + 4 })
+    }
+
+    pub fn i2(self, s: &[u8]) -> Signed
+        ensures { λ r. ⌜ SignedAt (now (s .entry)) (self .at) r ⌝ }
+    {
+        let at = self.at;
+        if left(s, at) < 2 {
+            return Signed::Cut;
+        }
+        Signed::Got(signed16(pair(s, at)), Cursor { at: at + 2 })
+    }
+
+    // An I2 that is a surface number.
+    pub fn sign(self, s: &[u8]) -> Signs
+        ensures { λ r. ⌜ SignAt (now (s .entry)) (self .at) r ⌝ }
+    {
+        let Signed::Got(z, next) = self.i2(s) else {
+            return Signs::Cut;
+        };
+        Signs::Got(sign_of(z), next)
+    }
+
+    pub fn vx(self, s: &[u8]) -> Number
+        ensures { λ r. ⌜ NumberAt vx 2 (now (s .entry)) (self .at) r ⌝ }
+    {
+        let at = self.at;
+        if byte(s, at) == 255 {
+            let Number::Got(n, next) = self.u4(s) else {
+                return Number::Cut;
+            };
+            return Number::Got(n % 16777216, next);
+        }
+        self.u2(s)
+    }
+
+    pub fn float(self, s: &[u8]) -> Item
+        ensures { λ r. ⌜ ItemAt float 4 (now (s .entry)) (self .at) r ⌝ }
+    {
+        let Number::Got(bits, next) = self.u4(s) else {
+            return Item::Stop(Fault::ItemCut);
+        };
+        if is_finite(bits) {
+            Item::Got(bits, next)
+        } else {
+            Item::Stop(Fault::NotFinite)
+        }
+    }
+
+    pub fn string(self, s: &[u8]) -> Text
+        ensures { λ r. ⌜ TextAt (now (s .entry)) (self .at) r ⌝ }
+    {
+        let at = self.at;
+        let n = terminator(s, at) - at;
+        let size = n + 2 - n % 2;
+        if left(s, at) < size {
+            return Text::Open;
+        }
+        let last = at + size - 1;
+        if s[last] == 0 {
+            Text::Got(n, Cursor { at: at + size })
+        } else {
+            Text::Open
+        }
+    }
+}
