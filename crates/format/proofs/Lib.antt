@@ -1,5 +1,6 @@
 pub mod Saying
 pub mod Entries
+pub mod Counting
 pub mod Sounding
 pub mod Places
 pub mod Strings

@@ -3,14 +3,15 @@
 use mathlib.Core.Path.{_≡_, refl, sym, ap, _∙_}
 use mathlib.Core.List.{List, []}
 use mathlib.Core.Bool.{Bool, true, false}
-use Prim.Native.Nat.{ℕ, _+_, _≤_, _<_}
+use Prim.Native.Nat.{ℕ, _+_, _-_, _≤_, _<_}
 use native.Mathlib.Omega.{arith}
-use lib.ListN.{length, drop, drop-of-length-le}
-use lib.Seq.{drop-cons}
+use lib.ListN.{length, drop, length-drop, drop-of-length-le}
+use lib.Seq.{drop-cons, drop-length}
 use Rattle.format.specs.Bytes.{if_then_else_, empty}
 use Rattle.format.specs.declared.Fault.{Fault}
 use Rattle.format.specs.declared.Fault.the-variants.{WrongLength}
 use Rattle.format.specs.Items.{Verdict, fine, fault, Got, _then_, Reader, _>>=_, give, _or_unless_, whole}
+use Rattle.format.specs.Chunks.{headerOf, ofLength, unjudged}
 use Rattle.format.specs.Said.{keep, itself, Says, Moves, Keeps, JudgedAt, got}
 
 -- ---- what is kept
@@ -156,3 +157,20 @@ module _ {A B : Type 0} {header start : ℕ} {r : Reader A} {h : A → B} {s : L
   pub faulty : {why : Fault} {p : ℕ} → Says r h s start (fault why p) → JudgedAt header start r h s (fault why p)
   unfolding whole _then_
   faulty w = record { is = rw (stopped w) }
+
+-- ---- a body whose length is judged first, and one that is not judged
+
+module _ {A B : Type 0} (width : ℕ) (ok : ℕ → Bool) (r : Reader A) {h : A → B} {s : List ℕ} {at : ℕ} where
+  pub wrong-length : ok (length s - at) ≡ false → Says (ofLength width ok r) h s at (fault WrongLength (headerOf width at))
+  unfolding ofLength _then_
+  wrong-length e = record { is = rw (length-drop at s, e) }
+
+  pub right-length : {answer : Verdict (Got B)} → ok (length s - at) ≡ true → Says r h s at answer → Says (ofLength width ok r) h s at answer
+  unfolding ofLength
+  right-length e w = record { is = rw (length-drop at s, e) (w .is) }
+
+pub not-judged : {A : Type 0} (a : A) {s : List ℕ} {at : ℕ} → at ≤ length s → Says (unjudged a) itself s at (got s a (length s))
+unfolding unjudged _then_
+not-judged a {s} {at} h =
+    let end : at + (length s - at) ≡ length s = omega arith in
+    record { is = rw (length-drop at s, end, drop-length s) }

@@ -5,11 +5,13 @@ use mathlib.Core.Bool.{Bool, not, _&&_, _||_}
 use lib.ListN.{length}
 use lib.Dec.{leb, ltb, eqb}
 use lib.IntN.{ℤ}
+use Rattle.format.specs.declared.Kind.{Kind}
+use Rattle.format.specs.declared.Kind.the-variants.{LWOB, LWO2}
 use Rattle.format.specs.declared.Fault.the-variants.{VertexCount, VertexNumber, SurfaceNumber, PolygonNumber, PolygonType, BadName, DetailSurface}
 use Rattle.format.specs.Bytes.{if_then_else_, _is_, between, absolute, negative, sum, joined, amongst}
 use Rattle.format.specs.Limits.{nameLimit, lwobVertexLimit, lwobPointLimit}
 use Rattle.format.specs.Items.{Reader, _>>=_, give, _or_unless_, times, many, u2, u4, i2, float, vx, string}
-use Rattle.format.specs.Chunks.{Kind, LWOB, LWO2, ofLength, sub, unjudged}
+use Rattle.format.specs.Chunks.{ofLength, sub, unjudged}
 use Rattle.format.specs.Mesh.{Point, Polygon, FACE, PATCH, Name}
 use Rattle.format.specs.Surfaces.{Value, lwobValue, lwo2Value}
 

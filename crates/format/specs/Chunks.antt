@@ -8,10 +8,6 @@ use Rattle.format.specs.declared.Fault.the-variants.{BadHeader, WrongLen
 use Rattle.format.specs.Bytes.{if_then_else_, between, number, every, all}
 use Rattle.format.specs.Items.{Verdict, fine, fault, _then_, Got, Reader, give, whole}
 
--- the two kinds of file
-pub data Kind : Type 0 where
-  LWOB LWO2 : Kind
-
 pub record Chunk : Type 0 where
   pub tag : ℕ
   pub body : List ℕ

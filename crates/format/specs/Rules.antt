@@ -5,12 +5,14 @@ use mathlib.Core.Bool.{Bool, true, false, not, _&&_, _||_}
 use mathlib.Core.Option.{Option, none, some}
 use lib.ListN.{length, take, drop}
 use lib.Dec.{ltb, eqb}
+use Rattle.format.specs.declared.Kind.{Kind}
+use Rattle.format.specs.declared.Kind.the-variants.{LWOB, LWO2}
 use Rattle.format.specs.declared.Fault.the-variants.{FileTooLong, NotForm, FormLength, BadHeader, OutOfOrder}
 use Rattle.format.specs.Bytes.{if_then_else_, _is_, number, sum, joined, same}
 use Rattle.format.specs.Limits.{fileLimit}
 use Rattle.format.specs.Refusals.{numberOf, placeOf}
 use Rattle.format.specs.Items.{Verdict, fine, fault, _then_ as _>>=_, Reader, whole}
-use Rattle.format.specs.Chunks.{Kind, LWOB, LWO2, Chunks, finished, broken, chunk, chunks, sizeOf}
+use Rattle.format.specs.Chunks.{Chunks, finished, broken, chunk, chunks, sizeOf}
 use Rattle.format.specs.Mesh.{Point, Polygon, Name, Surface, Mesh, missing}
 use Rattle.format.specs.Surfaces.{Value, recordOf}
 use Rattle.format.specs.Bodies.{Part, points, names, polygons, tagging, surface, skipped, pointsBody, namesBody, facesBody, patchesBody, polygonsBody, taggingBody, surfaceBody}

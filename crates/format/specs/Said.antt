@@ -1,6 +1,6 @@
 -- How a contract cites the rule book: what a reader says at a place of a slice, what a whole body is judged to be, and what a table holds after words
 -- were put into it. The slice is a chunk's bytes from its tag on, so that an index of it is a place.
-use Prim.Native.Nat.{ℕ, _+_, _≤_}
+use Prim.Native.Nat.{ℕ, _+_, _*_, _≤_}
 use mathlib.Core.Path.{_≡_}
 use mathlib.Core.List.{List, _++_}
 use lib.ListN.{length, take, drop}
@@ -19,6 +19,9 @@ keep h v = v then λ g. give (h (g .value)) (g .next) (g .left)
 abbrev pub itself : {A : Type 0} → A → A
 itself a = a
 
+abbrev pub nothing : {A : Type 0} → A → Unit {0}
+nothing a = tt
+
 -- `answer` is what the reader says at a place of `s`, of the part `h` of what it reads.
 pub record Says {A B : Type 0} (r : Reader A) (h : A → B) (s : List ℕ) (at : ℕ) (answer : Verdict (Got B)) : Type 0 where
   pub is : answer ≡ keep h (r at (drop at s))
@@ -30,6 +33,10 @@ Moves size at (fault why p) = Unit
 
 abbrev pub taking : {A : Type 0} → ℕ → A → ℕ
 taking n a = n
+
+-- so many entries of k bytes
+abbrev pub each : (k n : ℕ) → ℕ
+each k n = n * k
 
 -- a name and its terminator
 abbrev pub nameSize : List ℕ → ℕ

@@ -5,10 +5,12 @@ use mathlib.Core.List.{List, [], _∷_, map}
 use mathlib.Core.Bool.{Bool, _||_}
 use lib.ListN.{take, getD}
 use lib.Dec.{eqb}
+use Rattle.format.specs.declared.Kind.{Kind}
+use Rattle.format.specs.declared.Kind.the-variants.{LWOB, LWO2}
 use Rattle.format.specs.declared.Fault.the-variants.{SurfaceValue}
 use Rattle.format.specs.Bytes.{if_then_else_, _is_, over255, over256, one, empty}
 use Rattle.format.specs.Items.{fault, Reader, _>>=_, give, _or_unless_, many, item, u2, i2, float, vx, string}
-use Rattle.format.specs.Chunks.{Kind, LWOB, LWO2, headerOf, sub, fixed, unjudged}
+use Rattle.format.specs.Chunks.{headerOf, sub, fixed, unjudged}
 use Rattle.format.specs.Mesh.{Surface, missing}
 
 -- a listed sub-chunk: its tag and the words that it gives

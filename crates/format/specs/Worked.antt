@@ -7,10 +7,11 @@ use mathlib.Core.List.{List, [], _∷_, _++_, map}
 use lib.ListN.{length}
 use lib.IntN.{ℤ}
 use lib.Dec.{leb}
+use Rattle.format.specs.declared.Kind.the-variants.{LWOB}
 use Rattle.format.specs.Bytes.{if_then_else_, absolute, negative, spelt, number, finite, over255, over256, every, all, sum, joined, same, amongst}
 use Rattle.format.specs.Refusals.{numberOf}
 use Rattle.format.specs.Items.{Verdict, fine, fault, Got, _then_, _>>=_, _or_unless_, whole, times, upTo, many, item, uint, i2, float, vx, toZero, string}
-use Rattle.format.specs.Chunks.{LWOB, sizeOf, lengthOf, wellFormed, chunkOf, ofLength, link, split, chunks, sub, unjudged}
+use Rattle.format.specs.Chunks.{sizeOf, lengthOf, wellFormed, chunkOf, ofLength, link, split, chunks, sub, unjudged}
 use Rattle.format.specs.Mesh.{Mesh, missing}
 use Rattle.format.specs.Surfaces.{lwobValue, unlistedSubs, blockHeader, blockSub, block, lwo2Value, last, recordOf}
 use Rattle.format.specs.Bodies.{point, wholePoints, pointsBody, name, namesAfter, namesBody, lwobVertices, detail, details, detailsAfter, face, facesBody, patch, patchesBody, lwo2Vertices, polygon, polygonsBody, pair, taggingBody, surfaceBody}

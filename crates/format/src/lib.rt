@@ -1,4 +1,10 @@
-// The rules of document 01 as definitions: see specs/. The one thing that code and rules share as a type is the kind of fault.
+// The rules of document 01 as definitions: see specs/. Code and rules share these two types.
+
+// The two kinds of file.
+pub enum Kind {
+    LWOB,
+    LWO2,
+}
 
 // What can be wrong with a file. It is finer than the refusal numbers, which specs/Refusals.antt gives.
 pub enum Fault {

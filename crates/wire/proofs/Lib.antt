@@ -1,2 +1,2 @@
 mod Halves
-mod Headers
+pub mod Headers

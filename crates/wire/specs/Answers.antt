@@ -7,9 +7,13 @@ use lib.ListN.{length, take, drop}
 use lib.IntN.{ℤ}
 use Rattle.format.specs.declared.Fault.the-variants.{BadHeader, ItemCut, StringOpen}
 use Rattle.format.specs.Bytes.{absolute, negative, between, all}
-use Rattle.format.specs.Items.{Verdict, fault, Got, Reader, i2, string}
+use Rattle.format.specs.Items.{Verdict, fine, fault, Got, Reader, i2, string}
 use Rattle.format.specs.Chunks.{Chunk, lengthOf, chunkOf}
-use Rattle.format.specs.Said.{got, Keeps, ReadsAt, taking, nameSize}
+use Rattle.format.specs.Said.{got, nothing, Keeps, ReadsAt, taking, nameSize}
+use Rattle.wire.specs.declared.Refusal.{Refusal}
+use Rattle.wire.specs.declared.Step.{Step}
+use Rattle.wire.specs.declared.Run.{Run}
+use Rattle.wire.specs.declared.Checked.{Checked}
 use Rattle.wire.specs.declared.cursor.Cursor.{Cursor}
 use Rattle.wire.specs.declared.cursor.Number.{Number}
 use Rattle.wire.specs.declared.cursor.Signed.{Signed}
@@ -66,6 +70,24 @@ TextInside s Text.Open = Unit
 pub record TextAt (s : List ℕ) (at : ℕ) (answer : Text) : Type 0 where
   pub reads : ReadsAt string nameSize s at (textAs s at answer)
   pub inside : TextInside s answer
+
+-- ---- entries and bodies
+
+abbrev pub stepAs : List ℕ → Step → Verdict (Got (Unit {0}))
+stepAs s (Step.At c) = got s tt (c .at)
+stepAs s (Step.Stop f) = fault (f .why) (f .at)
+
+-- an entry of so many bytes at least, of which nothing is kept
+abbrev pub StepAt : {A : Type 0} → Reader A → (size : ℕ) → List ℕ → ℕ → Step → Type 0
+StepAt r size s at answer = Keeps r nothing (taking size) s at (stepAs s answer)
+
+abbrev pub runAs : List ℕ → Run → Verdict (Got ℕ)
+runAs s (Run.Got n c) = got s n (c .at)
+runAs s (Run.Stop f) = fault (f .why) (f .at)
+
+abbrev pub checkedAs : Checked → Verdict (Unit {0})
+checkedAs Checked.Fine = fine tt
+checkedAs (Checked.Stop f) = fault (f .why) (f .at)
 
 -- ---- headers
 

@@ -1,4 +1,5 @@
 // The bytes of a file as the rule book's items and headers. A chunk is lent as its bytes from its tag on, and a cursor is a place in them.
+use crate::cursor::Cursor;
 use format::Fault;
 
 pub mod cursor;
@@ -8,4 +9,22 @@ pub mod header;
 pub struct Refusal {
     pub why: Fault,
     pub at: usize,
+}
+
+// An entry of which nothing is kept: the moved cursor.
+pub enum Step {
+    At(Cursor),
+    Stop(Refusal),
+}
+
+// Entries of which their number is kept.
+pub enum Run {
+    Got(usize, Cursor),
+    Stop(Refusal),
+}
+
+// A body of which nothing is kept.
+pub enum Checked {
+    Fine,
+    Stop(Refusal),
 }
