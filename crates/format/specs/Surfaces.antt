@@ -1,5 +1,5 @@
 -- Surfaces: the sub-chunks of a SURF, by kind of file and level, and the record that their values make.
-use Prim.Native.Nat.{ℕ, _/_, _%_, _^_}
+use Prim.Native.Nat.{ℕ, zero, suc, _/_, _%_, _^_}
 use Prim.Native.String.{String}
 use mathlib.Core.List.{List, [], _∷_, map}
 use mathlib.Core.Bool.{Bool, _||_}
@@ -33,48 +33,69 @@ level t = t is "LUMI" || t is "DIFF" || t is "SPEC" || t is "REFL" || t is "TRAN
 abbrev pub floatLevel : ℕ → Bool
 floatLevel t = t is "VLUM" || t is "VDIF" || t is "VSPC" || t is "VRFL" || t is "VTRN"
 
--- "COLR has 4 bytes: each of the first three divided by 255, rounded once; the fourth isn't judged. LUMI, DIFF, SPEC, REFL, TRAN (2 bytes, signed): n
--- divided by 256. 003 tells of old REFL and SPEC of length 4; they are 6 (house). VLUM, VDIF, VSPC, VRFL, VTRN (4 bytes): the float. FLAG (2 bytes)."
+-- "COLR has 4 bytes: each of the first three divided by 255, rounded once; the fourth isn't judged."
+abbrev pub byteColour : (tag : ℕ) → Reader (List Value)
+byteColour t = fixed 4 (do bytes ← item 4; give (value t (map over255 (take 3 bytes))))
+
+-- "LUMI, DIFF, SPEC, REFL, TRAN (2 bytes, signed): n divided by 256, which is exact. 003 tells of old REFL and SPEC of length 4; they are 6 (house)."
+abbrev pub shortLevel : (tag : ℕ) → Reader (List Value)
+shortLevel t = fixed 2 (do n ← i2; give (value t (over256 n ∷ [])))
+
+-- "VLUM, VDIF, VSPC, VRFL, VTRN (4 bytes): the float"
+abbrev pub longLevel : (tag : ℕ) → Reader (List Value)
+longLevel t = fixed 4 (do x ← float; give (value t (x ∷ [])))
+
+-- "FLAG (2 bytes)"
+abbrev pub flags : (tag : ℕ) → Reader (List Value)
+flags t = fixed 2 (do n ← u2; give (value t (n ∷ [])))
+
 unfoldable pub lwobValue : (tag : ℕ) → Reader (List Value)
 lwobValue t =
-    if t is "COLR" then fixed 4 (do bytes ← item 4; give (value t (map over255 (take 3 bytes))))
-    else if level t then fixed 2 (do n ← i2; give (value t (over256 n ∷ [])))
-    else if floatLevel t then fixed 4 (do x ← float; give (value t (x ∷ [])))
-    else if t is "FLAG" then fixed 2 (do n ← u2; give (value t (n ∷ [])))
+    if t is "COLR" then byteColour t
+    else if level t then shortLevel t
+    else if floatLevel t then longLevel t
+    else if t is "FLAG" then flags t
     else unlisted
 
 -- ---- LWO2: "the nesting is checked level by level, to a depth of at most four counting SURF's own sub-chunks as level two"
 
--- level four, in a block header or a TMAP: none is listed there
-unfoldable pub unlistedSubs : Reader (List Value)
-unlistedSubs = do vs ← many (sub (λ t. unlisted)); give []
+-- Sub-chunks of a container, of which a TMAP is one too while the depth allows it: none is listed on level four.
+unfoldable pub nested : (depth : ℕ) → Reader (List Value)
+nested zero = do vs ← many (sub (λ t. unlisted)); give []
+nested (suc depth) = do vs ← many (sub (λ t. if t is "TMAP" then nested depth else unlisted)); give []
 
--- level three: "its first sub-chunk is IMAP, PROC, GRAD or SHDR, holding a string and then sub-chunks"; another is the fault of BLOK's header
+-- level three: "its first sub-chunk is IMAP, PROC, GRAD or SHDR, holding a string and then sub-chunks"; another is the fault of BLOK's own header
 abbrev pub blockType : ℕ → Bool
 blockType t = t is "IMAP" || t is "PROC" || t is "GRAD" || t is "SHDR"
 
 unfoldable pub blockHeader : (blok tag : ℕ) → Reader (List Value)
-blockHeader blok t = if blockType t then (do ordinal ← string; unlistedSubs) else (λ at s. fault SurfaceValue blok)
+blockHeader blok t = if blockType t then (do ordinal ← string; nested 0) else (λ at s. fault SurfaceValue blok)
 
--- "a later one is unlisted"; "a TMAP directly in a BLOK holds sub-chunks"
-unfoldable pub blockSub : (tag : ℕ) → Reader (List Value)
-blockSub t = if t is "TMAP" then unlistedSubs else unlisted
-
--- 15: "BLOK empty or with another first sub-chunk"
+-- 15: "BLOK empty or with another first sub-chunk"; "a later one is unlisted"; "a TMAP directly in a BLOK holds sub-chunks"
 unfoldable pub block : Reader (List Value)
-block at s =
-    if empty s then fault SurfaceValue (headerOf 2 at) else (do h ← sub (blockHeader (headerOf 2 at)); vs ← many (sub blockSub); give []) at s
+block at s = if empty s then fault SurfaceValue (headerOf 2 at) else (do h ← sub (blockHeader (headerOf 2 at)); nested 1) at s
 
--- 15: "SIDE neither 1 nor 3"
+-- "COLR: three floats and a VX." "Bodies are used up exactly; the VX is dropped."
+abbrev pub floatColour : (tag : ℕ) → Reader (List Value)
+floatColour t = do r ← float; g ← float; b ← float; envelope ← vx; give (value t (r ∷ g ∷ b ∷ []))
+
+-- "DIFF, LUMI, SPEC, REFL, TRAN: float and VX."
+abbrev pub envelopedLevel : (tag : ℕ) → Reader (List Value)
+envelopedLevel t = do x ← float; envelope ← vx; give (value t (x ∷ []))
+
+-- "SIDE: U2"; 15: "SIDE neither 1 nor 3"
 abbrev pub sideNumber : ℕ → Bool
 sideNumber n = eqb n 1 || eqb n 3
 
--- level two: "COLR: three floats and a VX. DIFF, LUMI, SPEC, REFL, TRAN: float and VX. SIDE: U2. Bodies are used up exactly; the VX is dropped."
+abbrev pub side : (tag : ℕ) → Reader (List Value)
+side t = fixed 2 (do n ← u2 or SurfaceValue unless sideNumber; give (value t (n ∷ [])))
+
+-- level two
 unfoldable pub lwo2Value : (tag : ℕ) → Reader (List Value)
 lwo2Value t =
-    if t is "COLR" then (do r ← float; g ← float; b ← float; envelope ← vx; give (value t (r ∷ g ∷ b ∷ [])))
-    else if level t then (do x ← float; envelope ← vx; give (value t (x ∷ [])))
-    else if t is "SIDE" then fixed 2 (do n ← u2 or SurfaceValue unless sideNumber; give (value t (n ∷ [])))
+    if t is "COLR" then floatColour t
+    else if level t then envelopedLevel t
+    else if t is "SIDE" then side t
     else if t is "BLOK" then block
     else unlisted
 
