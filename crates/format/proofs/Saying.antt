@@ -174,3 +174,22 @@ unfolding unjudged _then_
 not-judged a {s} {at} h =
     let end : at + (length s - at) ≡ length s = omega arith in
     record { is = rw (length-drop at s, end, drop-length s) }
+
+-- ---- a whole body, item by item
+
+module _ {A B C : Type 0} {header : ℕ} {r : Reader A} (k : A → Reader B) {h : B → C} {s : List ℕ} {at : ℕ} where
+  pub judged-on : {answer : Verdict C} {x : A} {next : ℕ} → Says r itself s at (got s x next) → JudgedAt header next (k x) h s answer → JudgedAt header at (r >>= k) h s answer
+  unfolding whole _then_ _>>=_
+  judged-on w j = record { is = rw (exactly w) (j .is) }
+
+  pub judged-some : {D : Type 0} {g : A → D} {answer : Verdict C} {y : D} {next : ℕ} → Says r g s at (got s y next) → ((x : A) → g x ≡ y → JudgedAt header next (k x) h s answer) → JudgedAt header at (r >>= k) h s answer
+  unfolding whole _then_ _>>=_
+  judged-some w j = let m = met w in record { is = rw (m .is) (j (m .value) (m .shows) .is) }
+
+  pub judged-off : {D : Type 0} {g : A → D} {why : Fault} {p : ℕ} → Says r g s at (fault why p) → JudgedAt header at (r >>= k) h s (fault why p)
+  judged-off w = faulty (off k w)
+
+module _ {A B : Type 0} {header : ℕ} (width : ℕ) (ok : ℕ → Bool) (r : Reader A) {h : A → B} {s : List ℕ} {at : ℕ} where
+  pub judged-length : {answer : Verdict B} → ok (length s - at) ≡ true → JudgedAt header at r h s answer → JudgedAt header at (ofLength width ok r) h s answer
+  unfolding ofLength whole
+  judged-length e j = record { is = rw (length-drop at s, e) (j .is) }

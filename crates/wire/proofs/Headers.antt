@@ -28,7 +28,7 @@ and-four true true false d = refl
 and-four true true true false = refl
 and-four true true true true = refl
 
-four-bytes : (s : List ℕ) (at : ℕ) → at + 4 ≤ length s → take 4 (drop at s) ≡ getD s at 0 ∷ getD s (at + 1) 0 ∷ getD s (at + 2) 0 ∷ getD s (at + 3) 0 ∷ []
+pub four-bytes : (s : List ℕ) (at : ℕ) → at + 4 ≤ length s → take 4 (drop at s) ≡ getD s at 0 ∷ getD s (at + 1) 0 ∷ getD s (at + 2) 0 ∷ getD s (at + 3) 0 ∷ []
 four-bytes s at h =
     let e : at + 1 ≡ suc at = omega arith in
     let f : at + 2 ≡ suc (suc at) = omega arith in

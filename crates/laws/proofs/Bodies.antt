@@ -1,0 +1,291 @@
+-- The bodies of the chunks of a canonical file, each read back as what it was written from. Assumes nothing.
+use Prim.Native.Nat.{ℕ, zero, suc, _+_, _-_, _%_, _^_, _≤_, _<_}
+use Prim.Native.String.{String}
+use mathlib.Core.Path.{_≡_, refl, sym}
+use mathlib.Core.List.{List, [], _∷_, _++_, map, append-nil}
+use mathlib.Core.Bool.{Bool, true, false, _&&_, _||_, and-eq-true-iff}
+use native.Mathlib.Omega.{arith}
+use lib.Dec.{leb, ltb, eqb}
+use lib.ListN.{length, take, drop, replicate, length-append, length-replicate}
+use borrow.Author.Tests.{le-leb, lt-ltb, eq-eqb, ltb-true, leb-true, eqb-true, eqb-false}
+use Rattle.format.specs.declared.Fault.the-variants.{VertexCount, VertexNumber, SurfaceNumber, PolygonNumber, PolygonType, BadName, SurfaceValue}
+use Rattle.format.specs.Bytes.{if_then_else_, number, spelt, finite, all, joined}
+use Rattle.format.specs.Limits.{vertexLimit, surfaceLimit}
+use Rattle.format.specs.Items.{_then_, _>>=_, give, _or_unless_, u2, u4, uint, vx, stringSize}
+use Rattle.format.specs.declared.Kind.the-variants.{LWO2}
+use Rattle.format.specs.Chunks.{sub, fixed}
+use Rattle.format.specs.Mesh.{Point, pointWords, pointFrom, Polygon, FACE, PATCH, Name, Surface, levels}
+use Rattle.format.specs.Surfaces.{Value, value, sideNumber, lwo2Value, last, recordOf}
+use Rattle.format.specs.Bodies.{points, names, polygons, tagging, surface, point, wholePoints, pointsBody, newName, name, namesAfter, namesBody, vertex, countBits, lwo2Vertices, polygon, polygonType, polygonKind, polygonsBody, pair, taggingBody, surfaceBody}
+use Rattle.format.specs.Canonical.{bytes, vxBytes, stringBytes, chunkBytes, pointBytes, polygonBytes, typeOf, pairsOf, pairBytes, levelBytes, surfaceBytes}
+use Rattle.format.specs.Written.{goodPolygon, noZero, goodNames}
+use Rattle.laws.proofs.Facts.{every-at, all-first, all-rest, all-part, between-true, length-entries}
+use Rattle.laws.proofs.Reading.{Reads, Ends, ends, reads-give, reads-then, ends-then, reads-as, ends-as, reads-unless, Row, none, more, reads-times, ends-many, rows, rows-same}
+use Rattle.laws.proofs.Items.{reads-item, length-bytes, reads-uint, word32, floats, reads-floats, reads-vx, reads-string}
+use Rattle.laws.proofs.Chunks.{isTag, more-sub, ends-of-length}
+
+-- ---- points
+
+-- three finite f32
+abbrev pub goodPoint : Point → Bool
+goodPoint p = all finite (pointWords p) && all word32 (pointWords p)
+
+reads-point : (p : Point) → goodPoint p ≡ true → Reads point (pointBytes p) p
+unfolding point floats
+reads-point p ok =
+    let both = and-eq-true-iff (all finite (pointWords p)) (all word32 (pointWords p)) .0 ok in
+    rw append-nil at (reads-floats (λ ws. give (pointFrom ws)) (pointWords p) (both .0) (both .1) reads-give)
+
+pub length-point : (p : Point) → length (pointBytes p) ≡ 12
+unfolding joined bytes
+length-point p = refl
+
+pub ends-points : (ps : List Point) → all goodPoint ps ≡ true → Ends (pointsBody LWO2) (joined (map pointBytes ps)) (points ps)
+unfolding pointsBody wholePoints
+ends-points ps ok =
+    ends-of-length 4 (wholePoints LWO2) (eq-eqb (length (joined (map pointBytes ps)) % 12) 0 (omega (arith, length-entries 12 pointBytes length-point ps)))
+    (ends-as points (ends-many (rows-same pointBytes goodPoint reads-point (λ p. omega (arith, length-point p)) ps ok)))
+
+-- ---- names
+
+pub record GoodName (earlier : List Name) (n : Name) (ns : List Name) : Type 0 where
+  pub new : newName earlier n ≡ true
+  pub no-zero : noZero n ≡ true
+  pub rest : goodNames (earlier ++ (n ∷ [])) ns ≡ true
+
+pub good-name : (earlier : List Name) (n : Name) (ns : List Name) → goodNames earlier (n ∷ ns) ≡ true → GoodName earlier n ns
+unfolding goodNames
+good-name earlier n ns ok =
+    let both = and-eq-true-iff (newName earlier n && noZero n) (goodNames (earlier ++ (n ∷ [])) ns) .0 ok in
+    let first = and-eq-true-iff (newName earlier n) (noZero n) .0 (both .0) in
+    record { new = first .0; no-zero = first .1; rest = both .1 }
+
+reads-name : (earlier : List Name) (n : Name) (ns : List Name) → GoodName earlier n ns → Reads (name earlier) (stringBytes n) n
+unfolding name
+reads-name earlier n ns g = record { here = reads-unless BadName (newName earlier) (reads-string n (g .no-zero)) (g .new) .here }
+
+pub length-string : (n : Name) → length n < length (stringBytes n)
+unfolding stringBytes
+length-string n =
+    let zeros : ℕ = stringSize (length n) - length n in
+    let long : length (replicate {A = ℕ} zeros 0) ≡ zeros = length-replicate zeros 0 in
+    omega (arith, length-append n (replicate zeros 0))
+
+names-step : {w v : List ℕ} {n : Name} {ns : List Name} (k : ℕ) (earlier : List Name) → Reads (name earlier) w n → 0 < length w → Ends (namesAfter k (earlier ++ (n ∷ []))) v ns
+    → Ends (namesAfter (suc k) earlier) (w ++ v) (n ∷ ns)
+unfolding namesAfter
+names-step {w = []} k earlier h long e = absurd (omega arith)
+names-step {w = b ∷ w} k earlier h long e = record { here = (ends-then _ h (ends-as _ e)) .here }
+
+ends-names-after : (k : ℕ) (earlier ns : List Name) → goodNames earlier ns ≡ true → length (joined (map stringBytes ns)) ≤ k
+    → Ends (namesAfter k earlier) (joined (map stringBytes ns)) ns
+unfolding namesAfter joined
+ends-names-after zero earlier [] ok fits = ends reads-give
+ends-names-after (suc k) earlier [] ok fits = record { here = ends reads-give .here }
+ends-names-after zero earlier (n ∷ ns) ok fits = absurd (omega (arith, length-append (stringBytes n) (joined (map stringBytes ns)), length-string n))
+ends-names-after (suc k) earlier (n ∷ ns) ok fits =
+    let g = good-name earlier n ns ok in
+    let less : length (joined (map stringBytes ns)) ≤ k = omega (arith, length-append (stringBytes n) (joined (map stringBytes ns)), length-string n) in
+    names-step k earlier (reads-name earlier n ns g) (omega (arith, length-string n)) (ends-names-after k (earlier ++ (n ∷ [])) ns (g .rest) less)
+
+pub ends-names : (ns : List Name) → goodNames [] ns ≡ true → Ends namesBody (joined (map stringBytes ns)) (names ns)
+unfolding namesBody
+ends-names ns ok = record { here = ends-as names (ends-names-after (length (joined (map stringBytes ns))) [] ns ok (omega arith)) .here }
+
+-- ---- polygons
+
+pub record GoodPolygon (pointCount nameCount : ℕ) (p : Polygon) : Type 0 where
+  pub kinds : (FACE ≤ p .kind) × (p .kind ≤ PATCH)
+  pub count : (1 ≤ length (p .vertices)) × (length (p .vertices) ≤ vertexLimit)
+  pub vertices : all (λ v. ltb v pointCount) (p .vertices) ≡ true
+  pub named : p .surface ≤ nameCount
+  pub numbered : p .surface ≤ surfaceLimit
+
+pub good-polygon : (pointCount nameCount : ℕ) (p : Polygon) → goodPolygon pointCount nameCount p ≡ true → GoodPolygon pointCount nameCount p
+unfolding goodPolygon
+good-polygon pointCount nameCount p ok = record {
+  kinds = between-true _ _ _ (every-at _ 0 ok);
+  count = between-true _ _ _ (every-at _ 1 ok);
+  vertices = every-at _ 2 ok;
+  named = leb-true _ _ (every-at _ 3 ok);
+  numbered = leb-true _ _ (every-at _ 4 ok);
+}
+
+-- a polygon as POLS has it, without its surface
+abbrev pub bare : ℕ → Polygon → Polygon
+bare k p = record { kind = k; surface = 0; vertices = p .vertices }
+
+pub length-vx : (n : ℕ) → 2 ≤ length (vxBytes n)
+unfolding vxBytes
+length-vx n = go (ltb n 65280)
+  where
+    go : (b : Bool) → 2 ≤ length (if b then bytes 2 n else bytes 4 (0xFF00_0000 + n))
+    go true = omega (arith, length-bytes 2 n)
+    go false = omega (arith, length-bytes 4 (0xFF00_0000 + n))
+
+reads-vertex : (pointCount : ℕ) → pointCount ≤ 2 ^ 24 → (v : ℕ) → ltb v pointCount ≡ true → Reads (vertex vx pointCount) (vxBytes v) v
+reads-vertex pointCount few v small = reads-unless VertexNumber (λ v. ltb v pointCount) (reads-vx v (omega (arith, ltb-true v pointCount small))) small
+
+reads-polygon : (pointCount nameCount k : ℕ) → pointCount ≤ 2 ^ 24 → (p : Polygon) → goodPolygon pointCount nameCount p ≡ true
+    → Reads (polygon pointCount k) (polygonBytes p) (bare k p)
+unfolding polygon lwo2Vertices polygonBytes
+reads-polygon pointCount nameCount k few p ok =
+    let g = good-polygon pointCount nameCount p ok in
+    let n : ℕ = length (p .vertices) in
+    let low : countBits n ≡ n = omega (arith, g .count) in
+    let counted = reads-unless VertexCount (λ n. leb 1 (countBits n)) (reads-uint 2 n (omega (arith, g .count))) (rw low (le-leb 1 n (g .count .0))) in
+    let row = rows-same vxBytes (λ v. ltb v pointCount) (reads-vertex pointCount few) (λ v. omega (arith, length-vx v)) (p .vertices) (g .vertices) in
+    reads-as _ (reads-then _ counted (rw low (reads-times row)))
+
+length-polygon : (p : Polygon) → 0 < length (polygonBytes p)
+unfolding polygonBytes
+length-polygon p = omega (arith, length-append (bytes 2 (length (p .vertices))) (joined (map vxBytes (p .vertices))), length-bytes 2 (length (p .vertices)))
+
+-- ---- a run's POLS
+
+reads-tag : (t : String) → length (spelt t) ≡ 4 → Reads u4 (spelt t) (number (spelt t))
+unfolding uint
+reads-tag t four = record { here = reads-as number (reads-item 4 (spelt t) four) .here }
+
+-- the type of a kind is read as that kind
+record Typed (k : ℕ) : Type 0 where
+  four : length (spelt (typeOf k)) ≡ 4
+  known : polygonType (number (spelt (typeOf k))) ≡ true
+  kind : polygonKind (number (spelt (typeOf k))) ≡ k
+
+typed : (k : ℕ) → (FACE ≤ k) × (k ≤ PATCH) → Typed k
+unfolding number
+typed k kinds = go (eqb k FACE) refl
+  where
+    go : (b : Bool) → eqb k FACE ≡ b → Typed k
+    go true e = rw (eqb-true k FACE e) (record { four = refl; known = refl; kind = refl })
+    go false e = let patch : k ≡ PATCH = omega (arith, eqb-false k FACE e, kinds) in rw patch (record { four = refl; known = refl; kind = refl })
+
+pub ends-run : (pointCount nameCount k : ℕ) → pointCount ≤ 2 ^ 24 → (FACE ≤ k) × (k ≤ PATCH) → (ps : List Polygon) → all (goodPolygon pointCount nameCount) ps ≡ true
+    → Ends (polygonsBody pointCount) (spelt (typeOf k) ++ joined (map polygonBytes ps)) (polygons (map (bare k) ps) 0)
+unfolding polygonsBody
+ends-run pointCount nameCount k few kinds ps ok =
+    let t = typed k kinds in
+    let row = rows polygonBytes (bare k) (goodPolygon pointCount nameCount) (reads-polygon pointCount nameCount k few) length-polygon ps ok in
+    ends-then _ (reads-unless PolygonType polygonType (reads-tag (typeOf k) (t .four)) (t .known)) (rw (t .kind) (ends-as (λ ps. polygons ps 0) (ends-many row)))
+
+-- ---- a run's PTAG
+
+reads-pair : (polygonCount nameCount i n : ℕ) → polygonCount ≤ 2 ^ 24 → i < polygonCount → n ≤ nameCount → n ≤ surfaceLimit → (n ≡ 0 → ⊥)
+    → Reads (pair polygonCount nameCount) (pairBytes (i, n)) (i, n)
+unfolding pair pairBytes
+reads-pair polygonCount nameCount i n few below named numbered some =
+    let t : ℕ = n - 1 in
+    let back : suc t ≡ n = omega arith in
+    let which = reads-unless PolygonNumber (λ p. ltb p polygonCount) (reads-vx i (omega arith)) (lt-ltb i polygonCount below) in
+    let tag = reads-unless SurfaceNumber (λ t. ltb t nameCount) (reads-uint 2 t (omega arith)) (lt-ltb t nameCount (omega arith)) in
+    let read : Reads (pair polygonCount nameCount) (vxBytes i ++ bytes 2 t) (i, suc t) = reads-then _ which (reads-as _ tag) in
+    rw back at read
+
+length-pair : (t : ℕ × ℕ) → 0 < length (pairBytes t)
+unfolding pairBytes
+length-pair t = omega (arith, length-append (vxBytes (t .0)) (bytes 2 (t .1 - 1)), length-vx (t .0))
+
+row-pairs : (pointCount polygonCount nameCount i : ℕ) → polygonCount ≤ 2 ^ 24 → (ps : List Polygon) → i + length ps ≤ polygonCount
+    → all (goodPolygon pointCount nameCount) ps ≡ true → Row (pair polygonCount nameCount) (map pairBytes (pairsOf i ps)) (pairsOf i ps)
+unfolding pairsOf
+row-pairs pointCount polygonCount nameCount i few [] fits ok = none
+row-pairs pointCount polygonCount nameCount i few (p ∷ ps) fits ok =
+    go (eqb (p .surface) 0) refl (row-pairs pointCount polygonCount nameCount (suc i) few ps (omega arith) (all-rest _ p ps ok))
+  where
+    g : GoodPolygon pointCount nameCount p
+    g = good-polygon pointCount nameCount p (all-first _ p ps ok)
+
+    go : (b : Bool) → eqb (p .surface) 0 ≡ b → Row (pair polygonCount nameCount) (map pairBytes (pairsOf (suc i) ps)) (pairsOf (suc i) ps)
+        → Row (pair polygonCount nameCount) (map pairBytes ((if b then [] else (i, p .surface) ∷ []) ++ pairsOf (suc i) ps)) ((if b then [] else (i, p .surface) ∷ []) ++ pairsOf (suc i) ps)
+    go true e later = later
+    go false e later =
+        more (reads-pair polygonCount nameCount i (p .surface) few (omega arith) (g .named) (g .numbered) (eqb-false (p .surface) 0 e)) (length-pair (i, p .surface)) later
+
+pub ends-pairs : (pointCount polygonCount nameCount : ℕ) → polygonCount ≤ 2 ^ 24 → (ps : List Polygon) → length ps ≤ polygonCount
+    → all (goodPolygon pointCount nameCount) ps ≡ true → Ends (taggingBody polygonCount nameCount) (spelt "SURF" ++ joined (map pairBytes (pairsOf 0 ps))) (tagging (pairsOf 0 ps))
+unfolding taggingBody number
+ends-pairs pointCount polygonCount nameCount few ps fits ok =
+    ends-then _ (reads-tag "SURF" refl) (ends-as tagging (ends-many (row-pairs pointCount polygonCount nameCount 0 few ps (omega arith) ok)))
+
+-- ---- surfaces
+
+-- the values that the SURF of a defined surface holds
+unfoldable pub valuesOf : Surface → List (List Value)
+valuesOf s =
+    value (number (spelt "COLR")) (s .red ∷ s .green ∷ s .blue ∷ [])
+    ∷ value (number (spelt "DIFF")) (s .diffuse ∷ [])
+    ∷ value (number (spelt "LUMI")) (s .luminosity ∷ [])
+    ∷ value (number (spelt "SPEC")) (s .specular ∷ [])
+    ∷ value (number (spelt "REFL")) (s .reflection ∷ [])
+    ∷ value (number (spelt "TRAN")) (s .transparency ∷ [])
+    ∷ value (number (spelt "SIDE")) (s .sides ∷ [])
+    ∷ []
+
+-- a sub-chunk of levels, with its envelope, in front of others
+more-levels : (t : String) (xs : List ℕ) {ws : List (List ℕ)} {vs : List (List Value)} → isTag t ≡ true → length xs ≤ 3 → all finite xs ≡ true → all word32 xs ≡ true
+    → lwo2Value (number (spelt t)) ≡ floats (length xs) (λ ws. vx >>= λ envelope. give (value (number (spelt t)) ws))
+    → Row (sub lwo2Value) ws vs → Row (sub lwo2Value) (levelBytes t xs ∷ ws) (value (number (spelt t)) xs ∷ vs)
+unfolding levelBytes
+more-levels t xs good few known narrow reader row =
+    let envelope : length (vxBytes 0) ≡ 2 = unfold vxBytes bytes in refl in
+    let body : List ℕ = joined (map (bytes 4) xs) ++ vxBytes 0 in
+    let small : length body < 65536 = omega (arith, length-append (joined (map (bytes 4) xs)) (vxBytes 0), length-entries 4 (bytes 4) (length-bytes 4) xs) in
+    more-sub lwo2Value t body good small (rw reader (ends (reads-floats _ xs known narrow (reads-as _ (reads-vx 0 (omega arith)))))) row
+
+side-small : (n : ℕ) → sideNumber n ≡ true → n < 65536
+side-small n ok = go (eqb n 1) refl ok
+  where
+    go : (b : Bool) → eqb n 1 ≡ b → b || eqb n 3 ≡ true → n < 65536
+    go true e ok = omega (arith, eqb-true n 1 e)
+    go false e ok = omega (arith, eqb-true n 3 ok)
+
+ends-sides : (t n : ℕ) → sideNumber n ≡ true → Ends (fixed 2 (u2 or SurfaceValue unless sideNumber >>= λ n. give (value t (n ∷ [])))) (bytes 2 n) (value t (n ∷ []))
+ends-sides t n ok =
+    ends-of-length 2 (eqb 2) (eq-eqb 2 (length (bytes 2 n)) (sym (length-bytes 2 n)))
+    (ends (reads-as (λ n. value t (n ∷ [])) (reads-unless SurfaceValue sideNumber (reads-uint 2 n (side-small n ok)) ok)))
+
+row-values : (s : Surface) → all finite (levels s) ≡ true → all word32 (levels s) ≡ true → sideNumber (s .sides) ≡ true
+    → Row (sub lwo2Value)
+    (levelBytes "COLR" (s .red ∷ s .green ∷ s .blue ∷ [])
+    ∷ levelBytes "DIFF" (s .diffuse ∷ [])
+    ∷ levelBytes "LUMI" (s .luminosity ∷ [])
+    ∷ levelBytes "SPEC" (s .specular ∷ [])
+    ∷ levelBytes "REFL" (s .reflection ∷ [])
+    ∷ levelBytes "TRAN" (s .transparency ∷ [])
+    ∷ chunkBytes 2 "SIDE" (bytes 2 (s .sides))
+    ∷ [])
+    (valuesOf s)
+unfolding valuesOf lwo2Value number all floats
+row-values s known narrow sides =
+    let finites : (i n : ℕ) → all finite (take n (drop i (levels s))) ≡ true = λ i n. all-part finite (levels s) i n known in
+    let words : (i n : ℕ) → all word32 (take n (drop i (levels s))) ≡ true = λ i n. all-part word32 (levels s) i n narrow in
+    more-levels "COLR" (s .red ∷ s .green ∷ s .blue ∷ []) refl (omega arith) (finites 0 3) (words 0 3) refl
+    (more-levels "DIFF" (s .diffuse ∷ []) refl (omega arith) (finites 3 1) (words 3 1) refl
+    (more-levels "LUMI" (s .luminosity ∷ []) refl (omega arith) (finites 4 1) (words 4 1) refl
+    (more-levels "SPEC" (s .specular ∷ []) refl (omega arith) (finites 5 1) (words 5 1) refl
+    (more-levels "REFL" (s .reflection ∷ []) refl (omega arith) (finites 6 1) (words 6 1) refl
+    (more-levels "TRAN" (s .transparency ∷ []) refl (omega arith) (finites 7 1) (words 7 1) refl
+    (more-sub lwo2Value "SIDE" (bytes 2 (s .sides)) refl (omega (arith, length-bytes 2 (s .sides))) (ends-sides _ (s .sides) sides) none))))))
+
+pub ends-surface : (n : Name) (s : Surface) → noZero n ≡ true → all finite (levels s) ≡ true → all word32 (levels s) ≡ true → sideNumber (s .sides) ≡ true
+    → Ends (surfaceBody LWO2) (surfaceBytes n s) (surface n (joined (valuesOf s)))
+unfolding surfaceBody surfaceBytes joined all
+ends-surface n s no-zero known narrow sides =
+    ends-then _ (reads-string n no-zero) (ends-then _ (reads-string [] refl) (ends-as (λ vs. surface n (joined vs)) (ends-many (row-values s known narrow sides))))
+
+-- the record that those values make
+pub record-back : (s : Surface) → s .defined ≡ 1 → recordOf LWO2 (joined (valuesOf s)) ≡ s
+unfolding recordOf valuesOf joined last number
+record-back s defined = λ i. record {
+  defined = sym defined i;
+  red = s .red;
+  green = s .green;
+  blue = s .blue;
+  diffuse = s .diffuse;
+  luminosity = s .luminosity;
+  specular = s .specular;
+  reflection = s .reflection;
+  transparency = s .transparency;
+  sides = s .sides;
+}

@@ -1,0 +1,72 @@
+-- Facts about tests and lists that the theorems use. Assumes nothing.
+use Prim.Native.Nat.{ℕ, zero, suc, _*_, _≤_}
+use mathlib.Core.Path.{_≡_, refl, _∙_}
+use mathlib.Core.List.{List, [], _∷_, _++_, map, append-assoc}
+use mathlib.Core.Bool.{Bool, true, false, _&&_, false≢true, and-eq-true-iff}
+use native.Mathlib.Omega.{arith}
+use lib.Dec.{leb}
+use lib.ListN.{length, take, drop, getD, length-append, take-append-drop}
+use borrow.Author.Tests.{leb-true}
+use Rattle.format.specs.Bytes.{between, every, all, joined}
+
+-- from two constructors that are told to be equal, `cc` proves this equation, and anything follows from it
+pub impossible : {P : Type 0} → _≡_ {A = ℕ} 0 1 → P
+impossible e = absurd (omega arith)
+
+-- ---- tests that all pass
+
+-- where all of some tests pass, the i-th does
+pub every-at : (bs : List Bool) (i : ℕ) → every bs ≡ true → getD bs i true ≡ true
+unfolding every
+every-at [] i e = refl
+every-at (true ∷ bs) zero e = refl
+every-at (true ∷ bs) (suc i) e = every-at bs i e
+every-at (false ∷ bs) i e = absurd (false≢true e)
+
+all-every : {A : Type 0} (p : A → Bool) (xs : List A) → all p xs ≡ every (map p xs)
+unfolding all every
+all-every p [] = refl
+all-every p (x ∷ xs) = rw (all-every p xs)
+
+-- where all elements pass a test, the i-th does
+pub all-at : {A : Type 0} (p : A → Bool) (xs : List A) (i : ℕ) → all p xs ≡ true → getD (map p xs) i true ≡ true
+all-at p xs i e = every-at (map p xs) i (rw (all-every p xs) at e)
+
+pub all-first : {A : Type 0} (p : A → Bool) (x : A) (xs : List A) → all p (x ∷ xs) ≡ true → p x ≡ true
+all-first p x xs e = all-at p (x ∷ xs) 0 e
+
+pub all-rest : {A : Type 0} (p : A → Bool) (x : A) (xs : List A) → all p (x ∷ xs) ≡ true → all p xs ≡ true
+unfolding all
+all-rest p x xs e = and-eq-true-iff (p x) (all p xs) .0 e .1
+
+pub all-and : {A : Type 0} (p q : A → Bool) (xs : List A) → all p xs ≡ true → all q xs ≡ true → all (λ x. p x && q x) xs ≡ true
+unfolding all
+all-and p q [] e₁ e₂ = refl
+all-and p q (x ∷ xs) e₁ e₂ = rw (all-first p x xs e₁, all-first q x xs e₂) (all-and p q xs (all-rest p x xs e₁) (all-rest q x xs e₂))
+
+pub all-append : {A : Type 0} (p : A → Bool) (xs ys : List A) → all p (xs ++ ys) ≡ true → (all p xs ≡ true) × (all p ys ≡ true)
+unfolding all
+all-append p [] ys e = (refl, e)
+all-append p (x ∷ xs) ys e = let later = all-append p xs ys (all-rest p x (xs ++ ys) e) in (rw (all-first p x (xs ++ ys) e) (later .0), later .1)
+
+pub all-drop : {A : Type 0} (p : A → Bool) (xs : List A) (i : ℕ) → all p xs ≡ true → all p (drop i xs) ≡ true
+all-drop p xs i e = all-append p (take i xs) (drop i xs) (rw take-append-drop e) .1
+
+-- where all elements pass a test, the n from the i-th on do
+pub all-part : {A : Type 0} (p : A → Bool) (xs : List A) (i n : ℕ) → all p xs ≡ true → all p (take n (drop i xs)) ≡ true
+all-part p xs i n e = all-append p (take n (drop i xs)) (drop n (drop i xs)) (rw take-append-drop (all-drop p xs i e)) .0
+
+pub between-true : (least most n : ℕ) → between least most n ≡ true → (least ≤ n) × (n ≤ most)
+between-true least most n e = let both = and-eq-true-iff (leb least n) (leb n most) .0 e in (leb-true least n (both .0), leb-true n most (both .1))
+
+-- ---- joined lists
+
+pub joined-append : {A : Type 0} (xss yss : List (List A)) → joined (xss ++ yss) ≡ joined xss ++ joined yss
+unfolding joined
+joined-append [] yss = refl
+joined-append (xs ∷ xss) yss = rw (joined-append xss yss, append-assoc)
+
+pub length-entries : {A : Type 0} (n : ℕ) (f : A → List ℕ) → ((x : A) → length (f x) ≡ n) → (xs : List A) → length (joined (map f xs)) ≡ length xs * n
+unfolding joined
+length-entries n f long [] = omega arith
+length-entries n f long (x ∷ xs) = length-append (f x) (joined (map f xs)) ∙ omega (arith, long x, length-entries n f long xs)

@@ -1,0 +1,114 @@
+-- The items: each is read back from the bytes that it is written as, in front of any rest. Assumes nothing.
+use Prim.Native.Nat.{ℕ, zero, suc, _+_, _-_, _*_, _/_, _%_, _^_, _≤_, _<_}
+use mathlib.Core.Path.{_≡_, refl, ap, _∙_}
+use mathlib.Core.List.{List, [], _∷_, _++_, map, foldl-append, append-assoc}
+use mathlib.Core.Bool.{Bool, true, false}
+use native.Mathlib.Omega.{arith}
+use lib.Dec.{ltb, eqb}
+use lib.ListN.{length, take, drop, replicate, length-append, length-replicate}
+use lib.Seq.{take-at, drop-at, take-append-seam, drop-append-seam}
+use borrow.Author.Tests.{le-leb, ne-eqb, eq-eqb, ltb-true, not-true}
+use Rattle.format.specs.Bytes.{if_then_else_, number, finite, all, joined}
+use Rattle.format.specs.Items.{Reader, _then_, _>>=_, item, uint, float, long, vx, toZero, stringSize, string}
+use Rattle.format.specs.Canonical.{bytes, vxBytes, stringBytes}
+use Rattle.format.specs.Written.{noZero}
+use Rattle.laws.proofs.Facts.{all-first, all-rest}
+use Rattle.laws.proofs.Reading.{Reads, reads-then, reads-as, reads-unless}
+
+-- ---- numbers
+
+pub reads-item : (n : ℕ) (w : List ℕ) → length w ≡ n → Reads (item n) w w
+unfolding item
+reads-item n w long = record {
+  here = λ at rest.
+      let enough : n ≤ length (w ++ rest) = omega (arith, length-append w rest) in
+      rw (le-leb n (length (w ++ rest)) enough, take-at w rest n long, drop-at w rest n long, long);
+}
+
+pub length-bytes : (k n : ℕ) → length (bytes k n) ≡ k
+unfolding bytes
+length-bytes zero n = refl
+length-bytes (suc k) n = length-append (bytes k (n / 256)) (n % 256 ∷ []) ∙ omega (arith, length-bytes k (n / 256))
+
+pub number-bytes : (k n : ℕ) → n < 256 ^ k → number (bytes k n) ≡ n
+unfolding number bytes
+number-bytes zero n small = omega arith
+number-bytes (suc k) n small =
+    foldl-append (λ n b. n * 256 + b) 0 (bytes k (n / 256)) (n % 256 ∷ []) ∙ omega (arith, number-bytes k (n / 256) (omega arith))
+
+pub reads-uint : (k n : ℕ) → n < 256 ^ k → Reads (uint k) (bytes k n) n
+unfolding uint
+reads-uint k n small = record { here = rw (number-bytes k n small) at (reads-as number (reads-item k (bytes k n) (length-bytes k n)) .here) }
+
+-- ---- floats
+
+-- a word of 32 bits, as a table and a file hold it
+abbrev pub word32 : ℕ → Bool
+word32 n = ltb n (2 ^ 32)
+
+reads-float : (n : ℕ) → finite n ≡ true → word32 n ≡ true → Reads float (bytes 4 n) n
+unfolding float
+reads-float n known narrow = record { here = reads-unless _ finite (reads-uint 4 n (ltb-true n (2 ^ 32) narrow)) known .here }
+
+-- so many floats, and then what is read after them
+unfoldable pub floats : {A : Type 0} → ℕ → (List ℕ → Reader A) → Reader A
+floats zero f = f []
+floats (suc n) f = float >>= λ x. floats n (λ xs. f (x ∷ xs))
+
+pub reads-floats : {A : Type 0} (f : List ℕ → Reader A) {v : List ℕ} {y : A} (xs : List ℕ) → all finite xs ≡ true → all word32 xs ≡ true → Reads (f xs) v y
+    → Reads (floats (length xs) f) (joined (map (bytes 4) xs) ++ v) y
+unfolding floats joined
+reads-floats f [] known narrow h = h
+reads-floats f (x ∷ xs) known narrow h =
+    rw append-assoc
+    (reads-then _ (reads-float x (all-first _ x xs known) (all-first _ x xs narrow))
+    (reads-floats (λ xs. f (x ∷ xs)) xs (all-rest _ x xs known) (all-rest _ x xs narrow) h))
+
+-- ---- VX
+
+pub reads-vx : (n : ℕ) → n < 2 ^ 24 → Reads vx (vxBytes n) n
+unfolding vx vxBytes bytes _>>=_ _then_
+reads-vx n small = go (ltb n 65280) refl
+  where
+    go : (b : Bool) → ltb n 65280 ≡ b → Reads vx (if b then bytes 2 n else bytes 4 (0xFF00_0000 + n)) n
+    go true e = record {
+      here = λ at rest.
+          let below : n < 65280 = ltb-true _ _ e in
+          let low : n / 256 % 256 ≡ 255 → ⊥ = omega arith in
+          rw (ne-eqb (n / 256 % 256) 255 low) (reads-uint 2 n (omega arith) .here at rest);
+    }
+    go false e = record {
+      here = λ at rest.
+          let high : (0xFF00_0000 + n) / 256 / 256 / 256 % 256 ≡ 255 = omega arith in
+          let same : (0xFF00_0000 + n) % 2 ^ 24 ≡ n = omega arith in
+          rw (eq-eqb ((0xFF00_0000 + n) / 256 / 256 / 256 % 256) 255 high, reads-uint 4 (0xFF00_0000 + n) (omega arith) .here at rest, same);
+    }
+
+-- ---- strings
+
+pub zeros : (n : ℕ) → all (eqb 0) (replicate n 0) ≡ true
+unfolding all
+zeros zero = refl
+zeros (suc n) = zeros n
+
+to-zero : (n rest : List ℕ) → noZero n ≡ true → toZero (n ++ 0 ∷ rest) ≡ length n
+unfolding toZero
+to-zero [] rest ok = refl
+to-zero (b ∷ n) rest ok = rw (not-true (eqb b 0) (all-first _ b n ok)) (ap suc (to-zero n rest (all-rest _ b n ok)))
+
+pub reads-string : (n : List ℕ) → noZero n ≡ true → Reads string (stringBytes n) n
+unfolding string stringBytes
+reads-string n ok = record {
+  here = λ at rest.
+      let l : ℕ = length n in
+      let size : ℕ = stringSize l in
+      let zs : List ℕ = replicate (size - l) 0 in
+      let one-more : size - l ≡ suc (1 - l % 2) = omega arith in
+      let ends-at : toZero (n ++ zs ++ rest) ≡ l = rw (append-assoc n zs rest, one-more) (to-zero n (replicate (1 - l % 2) 0 ++ rest) ok) in
+      let padding : length zs ≡ size - l = length-replicate (size - l) 0 in
+      let long : length (n ++ zs) ≡ size = length-append n zs ∙ omega arith in
+      let fits : size ≤ length (n ++ zs ++ rest) = omega (arith, length-append (n ++ zs) rest) in
+      let behind : drop l (n ++ zs ++ rest) ≡ zs ++ rest = ap (drop l) (append-assoc n zs rest) ∙ drop-append-seam n (zs ++ rest) in
+      let value : take l (n ++ zs ++ rest) ≡ n = ap (take l) (append-assoc n zs rest) ∙ take-append-seam n (zs ++ rest) in
+      rw (ends-at, le-leb size (length (n ++ zs ++ rest)) fits, behind, take-at zs rest (size - l) padding, zeros (size - l), value, drop-at (n ++ zs) rest size long, long);
+}

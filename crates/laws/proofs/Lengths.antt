@@ -1,0 +1,100 @@
+-- How long a canonical file is at least: it has a byte for each name, byte of a name, polygon and vertex, and twelve for each point. So a file within the
+-- limit bounds every count of its mesh. Assumes nothing.
+use Prim.Native.Nat.{ℕ, _+_, _*_, _%_, _≤_}
+use Prim.Native.String.{String}
+use mathlib.Core.Path.{_≡_, ap, _∙_}
+use mathlib.Core.List.{List, [], _∷_, _++_, map, map-append, append-nil}
+use native.Mathlib.Omega.{arith}
+use lib.ListN.{length, replicate, length-append}
+use Rattle.format.specs.Bytes.{spelt, joined}
+use Rattle.format.specs.declared.Kind.the-variants.{LWO2}
+use Rattle.format.specs.Mesh.{Polygon, Name, Mesh}
+use Rattle.format.specs.Canonical.{bytes, vxBytes, stringBytes, chunkBytes, pointBytes, polygonBytes, typeOf, pairsOf, pairBytes, runs, unlessEmpty, runChunks, surfaceChunks, canonicalChunks, encoded, canonical}
+use Rattle.laws.proofs.Facts.{joined-append, length-entries}
+use Rattle.laws.proofs.Items.{length-bytes}
+use Rattle.laws.proofs.Bodies.{length-point, length-string, length-vx}
+use Rattle.laws.proofs.Polygons.{joined-runs}
+use Rattle.laws.proofs.Form.{length-form}
+
+-- the length of what some elements are written as, joined
+abbrev total : {A B : Type 0} → (A → List B) → List A → ℕ
+total f xs = length (joined (map f xs))
+
+total-append : {A B : Type 0} (f : A → List B) (xs ys : List A) → total f (xs ++ ys) ≡ total f xs + total f ys
+total-append f xs ys =
+    ap (λ (l : List (List _)). length (joined l)) (map-append f xs ys) ∙ ap length (joined-append (map f xs) (map f ys)) ∙ length-append (joined (map f xs)) (joined (map f ys))
+
+-- a chunk is no shorter than what it holds
+total-unless : {A : Type 0} (tag type : String) (bytesOf : A → List ℕ) (xs : List A) → total bytesOf xs ≤ total encoded (unlessEmpty tag type bytesOf xs)
+unfolding unlessEmpty joined chunkBytes
+total-unless tag type bytesOf [] = omega arith
+total-unless tag type bytesOf (x ∷ xs) =
+    let entries : List ℕ = bytesOf x ++ joined (map bytesOf xs) in
+    let held : List ℕ = spelt type ++ entries in
+    let pad : List ℕ = replicate (length held % 2) 0 in
+    let behind : List ℕ = bytes 4 (length held) ++ (held ++ pad) in
+    let held-is = length-append (spelt type) entries in
+    let behind-is = length-append (bytes 4 (length held)) (held ++ pad) in
+    omega (arith, length-append held pad, length-append (spelt tag) behind, ap length (append-nil (spelt tag ++ behind)))
+
+length-vertices : (vs : List ℕ) → length vs ≤ total vxBytes vs
+unfolding joined
+length-vertices [] = omega arith
+length-vertices (v ∷ vs) = omega (arith, length-append (vxBytes v) (joined (map vxBytes vs)), length-vx v, length-vertices vs)
+
+abbrev verticesOf : Polygon → List ℕ
+verticesOf p = p .vertices
+
+length-polygons : (ps : List Polygon) → length ps + total verticesOf ps ≤ total polygonBytes ps
+unfolding joined polygonBytes
+length-polygons [] = omega arith
+length-polygons (p ∷ ps) =
+    let n = bytes 2 (length (p .vertices)) in
+    let vs = joined (map vxBytes (p .vertices)) in
+    omega (arith, length-append (n ++ vs) (joined (map polygonBytes ps)), length-append n vs, length-bytes 2 (length (p .vertices)), length-vertices (p .vertices), length-append (p .vertices) (joined (map verticesOf ps)), length-polygons ps)
+
+length-names : (ns : List Name) → length ns + length (joined ns) ≤ total stringBytes ns
+unfolding joined
+length-names [] = omega arith
+length-names (n ∷ ns) = omega (arith, length-append (stringBytes n) (joined (map stringBytes ns)), length-string n, length-append n (joined ns), length-names ns)
+
+total-run : (r : List Polygon) → length r + total verticesOf r ≤ total encoded (runChunks r)
+unfolding runChunks joined
+total-run [] = omega arith
+total-run (p ∷ r) =
+    let pols = unlessEmpty "POLS" (typeOf (p .kind)) polygonBytes (p ∷ r) in
+    omega (arith, total-append encoded pols (unlessEmpty "PTAG" "SURF" pairBytes (pairsOf 0 (p ∷ r))), total-unless "POLS" (typeOf (p .kind)) polygonBytes (p ∷ r), length-polygons (p ∷ r))
+
+total-runs : (rs : List (List Polygon)) → length (joined rs) + total verticesOf (joined rs) ≤ total encoded (joined (map runChunks rs))
+unfolding joined
+total-runs [] = omega arith
+total-runs (r ∷ rs) =
+    omega (arith, length-append r (joined rs), total-append verticesOf r (joined rs), total-append encoded (runChunks r) (joined (map runChunks rs)), total-run r, total-runs rs)
+
+-- what the file's chunks are at least together
+total-mesh : (m : Mesh)
+    → (length (m .names) + length (joined (m .names))) + (length (m .points) * 12 + (length (m .polygons) + total verticesOf (m .polygons))) ≤ total encoded (canonicalChunks m)
+unfolding canonicalChunks
+total-mesh m =
+    let a = unlessEmpty "TAGS" "" stringBytes (m .names) in
+    let b = unlessEmpty "PNTS" "" pointBytes (m .points) in
+    let c = joined (map runChunks (runs (m .polygons))) in
+    let d = surfaceChunks (m .names) (m .surfaces) in
+    let held : length (m .polygons) + total verticesOf (m .polygons) ≤ total encoded c = rw (joined-runs (m .polygons)) at (total-runs (runs (m .polygons))) in
+    omega (arith, total-append encoded a (b ++ (c ++ d)), total-append encoded b (c ++ d), total-append encoded c d, total-unless "TAGS" "" stringBytes (m .names), length-names (m .names), total-unless "PNTS" "" pointBytes (m .points), length-entries 12 pointBytes length-point (m .points))
+
+-- each count of a mesh whose canonical file is within that many bytes
+pub record Counts (m : Mesh) (most : ℕ) : Type 0 where
+  pub points : length (m .points) ≤ most
+  pub polygons : length (m .polygons) ≤ most
+  pub vertices : length (joined (map (λ p. p .vertices) (m .polygons))) ≤ most
+  pub names : length (m .names) ≤ most
+  pub nameBytes : length (joined (m .names)) ≤ most
+  pub chunks : 12 + length (joined (map encoded (canonicalChunks m))) ≤ most
+
+pub counts : (m : Mesh) (most : ℕ) → length (canonical m) ≤ most → Counts m most
+unfolding canonical
+counts m most short =
+    let held = total-mesh m in
+    let long = length-form LWO2 (joined (map encoded (canonicalChunks m))) in
+    record { points = omega arith; polygons = omega arith; vertices = omega arith; names = omega arith; nameBytes = omega arith; chunks = omega arith }

@@ -1,0 +1,16 @@
+pub mod Facts
+pub mod Reading
+pub mod Items
+pub mod Chunks
+pub mod Tiles
+pub mod Bodies
+pub mod Walk
+pub mod Polygons
+pub mod Meshes
+pub mod Form
+pub mod Lengths
+pub mod RoundTrip
+pub mod Tables
+pub mod WrittenBack
+pub mod Room
+pub mod Unlisted

@@ -1,0 +1,129 @@
+-- What room in the lent tables decides: whether a mesh is answered with 0 or with 16, and nothing else of the answer. Assumes nothing.
+use Prim.Native.Nat.{ℕ, _/_, _≤_}
+use mathlib.Core.Path.{_≡_, refl, ap}
+use mathlib.Core.List.{List}
+use mathlib.Core.Logic.{_↔_, _≢_}
+use mathlib.Core.Bool.{Bool, true, false}
+use native.Mathlib.Omega.{arith}
+use lib.Dec.{leb}
+use lib.ListN.{length}
+use borrow.Author.Tests.{le-leb, leb-true}
+use Rattle.format.specs.declared.Fault.{Fault}
+use Rattle.format.specs.declared.Fault.the-variants.{FileTooLong, NotForm, FormLength, BadHeader, OutOfOrder, WrongLength, ItemCut, StringOpen, NotFinite, VertexCount, VertexNumber, SurfaceNumber, PolygonNumber, PolygonType, BadName, DetailSurface, SurfaceValue}
+use Rattle.format.specs.Bytes.{if_then_else_, every}
+use Rattle.format.specs.Refusals.{numberOf, noRoom}
+use Rattle.format.specs.Items.{Verdict, fine, fault}
+use Rattle.format.specs.declared.Kind.{Kind}
+use Rattle.format.specs.Mesh.{Mesh, pointSize, polygonSize, recordSize, Tables, tables, Needs, needs}
+use Rattle.format.specs.Bodies.{Part}
+use Rattle.format.specs.Rules.{Outcome, refused, gives, judged, meshOf, outcome, rules}
+use Rattle.format.specs.Answer.{fits, Answer, answer, filled, tablesAfter}
+use Rattle.laws.proofs.Facts.{every-at}
+
+-- ---- longer tables
+
+-- each table of u is as long as t's at least; what stands in them is not looked at
+pub record Longer (t u : Tables) : Type 0 where
+  pub points : length (t .points) ≤ length (u .points)
+  pub polygons : length (t .polygons) ≤ length (u .polygons)
+  pub vertices : length (t .vertices) ≤ length (u .vertices)
+  pub names : length (t .names) ≤ length (u .names)
+  pub nameBytes : length (t .nameBytes) ≤ length (u .nameBytes)
+  pub records : length (t .records) ≤ length (u .records)
+
+-- what was long enough still is
+still : (n a b : ℕ) → a ≤ b → leb n a ≡ true → leb n b ≡ true
+still n a b longer e = le-leb n b (omega (arith, leb-true n a e))
+
+more-fits : (n : Needs) (t u : Tables) → Longer t u → fits n t ≡ true → fits n u ≡ true
+unfolding fits
+more-fits n t u h e =
+    let points : leb (n .points) (length (u .points) / pointSize) ≡ true = still _ (length (t .points) / pointSize) _ (omega arith) (every-at _ 0 e) in
+    let polygons : leb (n .polygons) (length (u .polygons) / polygonSize) ≡ true = still _ (length (t .polygons) / polygonSize) _ (omega arith) (every-at _ 1 e) in
+    let vertices : leb (n .vertices) (length (u .vertices)) ≡ true = still _ (length (t .vertices)) _ (h .vertices) (every-at _ 2 e) in
+    let names : leb (n .names) (length (u .names)) ≡ true = still _ (length (t .names)) _ (h .names) (every-at _ 3 e) in
+    let name-bytes : leb (n .nameBytes) (length (u .nameBytes)) ≡ true = still _ (length (t .nameBytes)) _ (h .nameBytes) (every-at _ 4 e) in
+    let records : leb (n .names) (length (u .records) / recordSize) ≡ true = still _ (length (t .records) / recordSize) _ (omega arith) (every-at _ 5 e) in
+    rw (points, polygons, vertices, names, name-bytes, records) (unfold every in refl)
+
+-- an answer to a mesh that is not 16 is one with room
+had-room : (m : Mesh) (k d : ℕ) (t : Tables) → answer (gives m k d) t .number ≢ noRoom → fits (needs m) t ≡ true
+unfolding answer
+had-room m k d t other = go (fits (needs m) t) other
+  where
+    go : (b : Bool) → (_≡_ {A = ℕ} (if b then 0 else noRoom) noRoom → ⊥) → b ≡ true
+    go true other = refl
+    go false other = absurd (other refl)
+
+-- longer tables never change an answer that is not 16
+pub more-room : (o : Outcome) (t u : Tables) → Longer t u → answer o t .number ≢ noRoom → answer o u ≡ answer o t
+unfolding answer
+more-room (refused number place) t u h other = refl
+more-room (gives m k d) t u h other =
+    let room : fits (needs m) t ≡ true = had-room m k d t other in
+    let more : fits (needs m) u ≡ true = more-fits (needs m) t u h room in
+    rw (room, more)
+
+-- and where a mesh was accepted, the same entries stand at the front of the longer tables
+pub more-room-tables : (m : Mesh) (k d : ℕ) (t u : Tables) → Longer t u → answer (gives m k d) t .number ≢ noRoom
+    → (tablesAfter (gives m k d) t ≡ filled (tables m) t) × (tablesAfter (gives m k d) u ≡ filled (tables m) u)
+unfolding tablesAfter
+more-room-tables m k d t u h other =
+    let room : fits (needs m) t ≡ true = had-room m k d t other in
+    let more : fits (needs m) u ≡ true = more-fits (needs m) t u h room in
+    (rw room, rw more)
+
+-- ---- when the answer is 16
+
+-- a mesh that the tables do not hold
+pub record NoRoom (o : Outcome) (t : Tables) : Type 0 where
+  pub mesh : Mesh
+  pub skipped : ℕ
+  pub details : ℕ
+  pub given : o ≡ gives mesh skipped details
+  pub short : fits (needs mesh) t ≡ false
+
+-- no fault of a file has the number 16
+number-not-16 : (why : Fault) → numberOf why ≡ noRoom → ⊥
+unfolding numberOf
+number-not-16 FileTooLong e = omega arith
+number-not-16 NotForm e = omega arith
+number-not-16 FormLength e = omega arith
+number-not-16 BadHeader e = omega arith
+number-not-16 OutOfOrder e = omega arith
+number-not-16 WrongLength e = omega arith
+number-not-16 ItemCut e = omega arith
+number-not-16 StringOpen e = omega arith
+number-not-16 NotFinite e = omega arith
+number-not-16 VertexCount e = omega arith
+number-not-16 VertexNumber e = omega arith
+number-not-16 SurfaceNumber e = omega arith
+number-not-16 PolygonNumber e = omega arith
+number-not-16 PolygonType e = omega arith
+number-not-16 BadName e = omega arith
+number-not-16 DetailSurface e = omega arith
+number-not-16 SurfaceValue e = omega arith
+
+-- what was judged is answered with 16 only where it is a mesh that the tables do not hold
+no-room-of : (v : Verdict (Kind × List Part)) (t : Tables) → answer (outcome v) t .number ≡ noRoom → NoRoom (outcome v) t
+unfolding outcome answer
+no-room-of (fault why at) t e = absurd (number-not-16 why e)
+no-room-of (fine f) t e = record { mesh = m; skipped = _; details = _; given = refl; short = go (fits (needs m) t) e }
+  where
+    m : Mesh
+    m = meshOf (f .0) (f .1)
+
+    go : (b : Bool) → _≡_ {A = ℕ} (if b then 0 else noRoom) noRoom → b ≡ false
+    go true e = absurd (omega arith)
+    go false e = refl
+
+-- where there is such a mesh, the answer is 16, and all five needs and both counts are told
+pub no-room-answer : (o : Outcome) (t : Tables) (n : NoRoom o t)
+    → answer o t ≡ record { number = noRoom; place = 0; needs = needs (n .mesh); skipped = n .skipped; details = n .details }
+unfolding answer
+no-room-answer o t n = rw (n .given, n .short)
+
+-- and the answer to a file is 16 nowhere else
+pub no-room-exactly : (s : List ℕ) (t : Tables) → (answer (rules s) t .number ≡ noRoom) ↔ NoRoom (rules s) t
+unfolding rules
+no-room-exactly s t = (no-room-of (judged s) t, λ n. ap (λ (a : Answer). a .number) (no-room-answer (rules s) t n))

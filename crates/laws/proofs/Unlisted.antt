@@ -1,0 +1,167 @@
+-- A whole chunk with an unlisted tag, put in between two chunks of a file that the rules give a mesh, changes only the skipped count. It is shown over
+-- chunks, and then over the bytes of two files; one argument serves LWOB and LWO2. Assumes nothing.
+use Prim.Native.Nat.{ℕ, _+_, _≤_}
+use Prim.Native.String.{String}
+use mathlib.Core.Path.{_≡_, refl, ap, _∙_}
+use mathlib.Core.List.{List, [], _∷_, _++_, map}
+use mathlib.Core.Bool.{Bool, true, not}
+use native.Mathlib.Omega.{arith}
+use native.Mathlib.Nat.{zero-add}
+use lib.ListN.{length, take, drop, length-append}
+use borrow.Author.Tests.{not-true}
+use Rattle.format.specs.Bytes.{_is_, number, all, sum, joined}
+use Rattle.format.specs.Limits.{fileLimit}
+use Rattle.format.specs.Items.{Verdict, fine, fault, _then_}
+use Rattle.format.specs.declared.Kind.{Kind}
+use Rattle.format.specs.declared.Kind.the-variants.{LWOB, LWO2}
+use Rattle.format.specs.Chunks.{Chunk, sizeOf, lengthOf, wellFormed, Chunks, finished, broken, chunk, chunks}
+use Rattle.format.specs.Mesh.{Mesh, Polygon}
+use Rattle.format.specs.Bodies.{Part, points, names, polygons, tagging, surface, skipped}
+use Rattle.format.specs.Rules.{Before, start, after, judge, located, walk, pointsOf, namesOf, surfacesOf, skippedOf, detailsOf, polygonsIn, meshOf, gives, form, outcome, rules}
+use Rattle.format.specs.Canonical.{formBytes}
+use Rattle.laws.proofs.Facts.{impossible, all-at}
+use Rattle.laws.proofs.Reading.{then-fine}
+use Rattle.laws.proofs.Chunks.{chunkIn, reads-whole}
+use Rattle.laws.proofs.Tiles.{inFront, next-chunk, chunks-row, Tiled, tiled}
+use Rattle.laws.proofs.Walk.{walk-on}
+use Rattle.laws.proofs.Form.{typeOfKind, isByte, outcomeOf, rules-form, form-is, was-fine}
+
+-- ---- unlisted tags
+
+-- the tags that are listed at the top level, by kind of file
+abbrev pub listedTags : Kind → List String
+listedTags LWOB = "PNTS" ∷ "SRFS" ∷ "POLS" ∷ "PCHS" ∷ "SURF" ∷ []
+listedTags LWO2 = "PNTS" ∷ "TAGS" ∷ "POLS" ∷ "PTAG" ∷ "SURF" ∷ []
+
+abbrev pub unlisted : Kind → ℕ → Bool
+unlisted kind t = all (λ tag. not (t is tag)) (listedTags kind)
+
+-- such a chunk is skipped, whatever stands before it and whatever it holds
+pub skips : (kind : Kind) (b : Before) (t : ℕ) (body : List ℕ) → unlisted kind t ≡ true → judge kind b t body ≡ fine skipped
+unfolding judge
+skips LWOB b t body u =
+    rw (not-true (t is "PNTS") (all-at _ _ 0 u), not-true (t is "SRFS") (all-at _ _ 1 u), not-true (t is "POLS") (all-at _ _ 2 u), not-true (t is "PCHS") (all-at _ _ 3 u), not-true (t is "SURF") (all-at _ _ 4 u))
+skips LWO2 b t body u =
+    rw (not-true (t is "PNTS") (all-at _ _ 0 u), not-true (t is "TAGS") (all-at _ _ 1 u), not-true (t is "POLS") (all-at _ _ 2 u), not-true (t is "PTAG") (all-at _ _ 3 u), not-true (t is "SURF") (all-at _ _ 4 u))
+
+-- ---- the walk with one chunk more
+
+-- what a chunk that was judged fine and the chunks after it contribute
+record Step (kind : Kind) (b : Before) (place t : ℕ) (body : List ℕ) (rest : Chunks) (parts : List Part) : Type 0 where
+  part : Part
+  later : List Part
+  here : judge kind b t body ≡ fine part
+  rest-fine : walk kind (after b part) (place + sizeOf 4 (length body)) rest ≡ fine later
+  both : part ∷ later ≡ parts
+
+located-fine : (place : ℕ) (v : Verdict Part) (a : Part) → located place v ≡ fine a → v ≡ fine a
+unfolding located
+located-fine place (fine b) a e = e
+located-fine place (fault why at) a e = impossible (cc)
+
+step : (kind : Kind) (b : Before) (place t : ℕ) (body : List ℕ) (rest : Chunks) (parts : List Part) → walk kind b place (chunk t body rest) ≡ fine parts → Step kind b place t body rest parts
+unfolding walk
+step kind b place t body rest parts e =
+    let x = then-fine (located place (judge kind b t body)) _ e in
+    let y = then-fine (walk kind (after b (x .0)) (place + sizeOf 4 (length body)) rest) _ (x .2) in
+    record { part = x .0; later = y .0; here = located-fine place _ (x .0) (x .1); rest-fine = y .1; both = cc (y .2) }
+
+-- whether chunks are fine does not depend on their place
+moved : (kind : Kind) (b : Before) (p q : ℕ) (cs : Chunks) (parts : List Part) → walk kind b p cs ≡ fine parts → walk kind b q cs ≡ fine parts
+unfolding walk
+moved kind b p q finished parts e = e
+moved kind b p q broken parts e = impossible (cc)
+moved kind b p q (chunk t body rest) parts e =
+    let s = step kind b p t body rest parts e in
+    walk-on kind b q t body rest (s .here) (moved kind (after b (s .part)) _ _ rest (s .later) (s .rest-fine)) ∙ ap fine (s .both)
+
+-- the parts before and after the chunk that was put in
+record Inserted (kind : Kind) (b : Before) (place : ℕ) (cs : Chunks) (parts : List Part) : Type 0 where
+  front : List Part
+  back : List Part
+  whole : front ++ back ≡ parts
+  walks : walk kind b place cs ≡ fine (front ++ skipped ∷ back)
+
+put-in : (kind : Kind) (b : Before) (p q t : ℕ) (body : List ℕ) (cs : List Chunk) (rest : Chunks) (parts : List Part) → unlisted kind t ≡ true
+    → walk kind b p (inFront cs rest) ≡ fine parts → Inserted kind b q (inFront cs (chunk t body rest)) parts
+unfolding inFront after
+put-in kind b p q t body [] rest parts u e =
+    record { front = []; back = parts; whole = refl; walks = walk-on kind b q t body rest (skips kind b t body u) (moved kind b p _ rest parts e) }
+put-in kind b p q t body (c ∷ cs) rest parts u e =
+    let s = step kind b p (c .tag) (c .body) (inFront cs rest) parts e in
+    let i = put-in kind (after b (s .part)) _ (q + sizeOf 4 (length (c .body))) t body cs rest (s .later) u (s .rest-fine) in
+    record {
+      front = s .part ∷ i .front;
+      back = i .back;
+      whole = ap (λ (l : List Part). s .part ∷ l) (i .whole) ∙ s .both;
+      walks = walk-on kind b q (c .tag) (c .body) (inFront cs (chunk t body rest)) (s .here) (i .walks);
+    }
+
+-- ---- the mesh with one part more
+
+module _ {A : Type 0} (f : Part → List A) (none : f skipped ≡ []) where
+  lists : (ps qs : List Part) → joined (map f (ps ++ skipped ∷ qs)) ≡ joined (map f (ps ++ qs))
+  unfolding joined
+  lists [] qs = rw none
+  lists (p ∷ ps) qs = ap (λ (l : List A). f p ++ l) (lists ps qs)
+
+sums : (f : Part → ℕ) (ps qs : List Part) → sum (map f (ps ++ skipped ∷ qs)) ≡ f skipped + sum (map f (ps ++ qs))
+unfolding sum
+sums f [] qs = refl
+sums f (p ∷ ps) qs = omega (arith, sums f ps qs)
+
+polygons-same : (base end : ℕ) (latest : List Polygon) (ps qs : List Part) → polygonsIn base end latest (ps ++ skipped ∷ qs) ≡ polygonsIn base end latest (ps ++ qs)
+unfolding polygonsIn
+polygons-same base end latest [] qs = refl
+polygons-same base end latest (points pts ∷ ps) qs = polygons-same _ _ _ ps qs
+polygons-same base end latest (names ns ∷ ps) qs = polygons-same _ _ _ ps qs
+polygons-same base end latest (polygons gs n ∷ ps) qs = ap (λ (l : List Polygon). latest ++ l) (polygons-same _ _ _ ps qs)
+polygons-same base end latest (tagging ts ∷ ps) qs = polygons-same _ _ _ ps qs
+polygons-same base end latest (surface n vs ∷ ps) qs = polygons-same _ _ _ ps qs
+polygons-same base end latest (skipped ∷ ps) qs = polygons-same _ _ _ ps qs
+
+mesh-same : (kind : Kind) (ps qs : List Part) → meshOf kind (ps ++ skipped ∷ qs) ≡ meshOf kind (ps ++ qs)
+unfolding meshOf pointsOf namesOf surfacesOf
+mesh-same kind ps qs = rw (lists pointsOf refl ps qs, lists namesOf refl ps qs, lists surfacesOf refl ps qs, polygons-same 0 0 [] ps qs)
+
+-- ---- over chunks
+
+-- chunks cs in front of others, and the same with one chunk more between them
+pub inserted-chunk : (kind : Kind) (cs : List Chunk) (t : ℕ) (body : List ℕ) (rest : Chunks) (m : Mesh) (k d : ℕ) → unlisted kind t ≡ true
+    → outcomeOf kind (inFront cs rest) ≡ gives m k d → outcomeOf kind (inFront cs (chunk t body rest)) ≡ gives m (1 + k) d
+unfolding outcome skippedOf detailsOf _then_
+inserted-chunk kind cs t body rest m k d u e =
+    let read = then-fine (walk kind start 12 (inFront cs rest)) (λ parts. fine (kind, parts)) (was-fine _ e .1) in
+    let i = put-in kind start 12 12 t body cs rest (read .0) u (read .1) in
+    let given = rw (read .1, ← i .whole) at e in
+    rw (i .walks, mesh-same kind (i .front) (i .back), sums skippedOf (i .front) (i .back), sums detailsOf (i .front) (i .back), zero-add) (cc (given))
+
+-- ---- over bytes
+
+-- c is one whole chunk, whatever its body holds, and its tag is unlisted
+pub record UnlistedChunk (kind : Kind) (c : List ℕ) : Type 0 where
+  pub formed : wellFormed 4 c ≡ true
+  pub exact : length c ≡ sizeOf 4 (lengthOf 4 c)
+  pub tag : unlisted kind (number (take 4 c)) ≡ true
+
+-- Two files of one kind. The chunks of the first are those of a and x, and of the second those of a, c and x. That a holds whole chunks says that c stands
+-- where a chunk ends.
+pub inserted : (kind : Kind) (a c x : List ℕ) (cs : List Chunk) (m : Mesh) (k d : ℕ) → chunks a ≡ inFront cs finished → UnlistedChunk kind c
+    → 12 + length (a ++ (c ++ x)) ≤ fileLimit
+    → rules (formBytes (typeOfKind kind) (a ++ x)) ≡ gives m k d → rules (formBytes (typeOfKind kind) (a ++ (c ++ x))) ≡ gives m (1 + k) d
+unfolding sizeOf
+inserted kind a c x cs m k d whole u fits e =
+    let t : Tiled a cs = tiled a cs whole in
+    let behind : (y : List ℕ) → chunks (a ++ y) ≡ inFront cs (chunks y) = λ y. rw (t .parts) (chunks-row (t .row) y) in
+    let one : chunks (c ++ x) ≡ chunk (number (take 4 c)) (chunkIn 4 c .body) (chunks x) = next-chunk (reads-whole 4 c (u .formed) (u .exact)) (omega (arith, u .exact)) x in
+    let short : 12 + length (a ++ x) ≤ fileLimit = omega (arith, length-append a x, length-append a (c ++ x), length-append c x) in
+    let given : outcomeOf kind (inFront cs (chunks x)) ≡ gives m k d = rw (← behind x, ← rules-form kind (a ++ x) short) e in
+    rules-form kind (a ++ (c ++ x)) fits ∙ rw (behind (c ++ x), one) (inserted-chunk kind cs (number (take 4 c)) (chunkIn 4 c .body) (chunks x) m k d (u .tag) given)
+
+-- and so for every file of bytes that the rules give a mesh
+pub inserted-in-file : (s : List ℕ) (kind : Kind) (a c x : List ℕ) (cs : List Chunk) (m : Mesh) (k d : ℕ) → all isByte s ≡ true → form s ≡ fine kind → drop 12 s ≡ a ++ x
+    → chunks a ≡ inFront cs finished → UnlistedChunk kind c → 12 + length (a ++ (c ++ x)) ≤ fileLimit
+    → rules s ≡ gives m k d → rules (formBytes (typeOfKind kind) (a ++ (c ++ x))) ≡ gives m (1 + k) d
+inserted-in-file s kind a c x cs m k d ok f cut whole u fits e =
+    let same : s ≡ formBytes (typeOfKind kind) (a ++ x) = form-is s kind ok f ∙ ap (formBytes (typeOfKind kind)) cut in
+    inserted kind a c x cs m k d whole u fits (rw same at e)

@@ -1,0 +1,192 @@
+-- The walk over the chunks of a canonical file: each is judged fine, and what each contributes. Assumes nothing.
+use Prim.Native.Nat.{ℕ, suc, _+_, _^_, _≤_, _<_}
+use Prim.Native.String.{String}
+use mathlib.Core.Path.{_≡_, refl}
+use mathlib.Core.List.{List, [], _∷_, _++_, map, append-assoc}
+use mathlib.Core.Bool.{Bool, true, false}
+use mathlib.Core.Option.{Option, none, some}
+use native.Mathlib.Omega.{arith}
+use lib.Dec.{ltb, eqb}
+use lib.ListN.{length, length-append, length-map}
+use borrow.Author.Tests.{ltb-true}
+use Rattle.format.specs.Bytes.{if_then_else_, number, spelt, all, joined}
+use Rattle.format.specs.Items.{fine, _then_}
+use Rattle.format.specs.declared.Kind.{Kind}
+use Rattle.format.specs.declared.Kind.the-variants.{LWO2}
+use Rattle.format.specs.Chunks.{Chunk, sizeOf, chunkOf, Chunks, finished, chunk}
+use Rattle.format.specs.Mesh.{Point, Polygon, Name, Surface, Mesh, levels}
+use Rattle.format.specs.Bodies.{Part, points, names, polygons, tagging, surface}
+use Rattle.format.specs.Rules.{Before, start, after, count, when_read_, judge, located, walk}
+use Rattle.format.specs.Canonical.{stringBytes, pointBytes, polygonBytes, typeOf, pairsOf, pairBytes, surfaceBytes, runs, unlessEmpty, runChunks, surfaceChunks, encoded}
+use Rattle.format.specs.Written.{goodPolygon, goodNames, goodSurface}
+use Rattle.laws.proofs.Facts.{every-at, all-first, all-rest, all-append}
+use Rattle.laws.proofs.Reading.{wholly, Row, none, more}
+use Rattle.laws.proofs.Items.{word32}
+use Rattle.laws.proofs.Chunks.{isTag, shorter, reads-chunk}
+use Rattle.laws.proofs.Tiles.{inFront}
+use Rattle.laws.proofs.Bodies.{goodPoint, ends-points, good-name, ends-names, bare, good-polygon, ends-run, ends-pairs, valuesOf, ends-surface}
+
+-- ---- chunks judged one after the other
+
+-- one chunk that is judged fine, and then the chunks after it
+pub walk-on : (kind : Kind) (b : Before) (place t : ℕ) (body : List ℕ) (rest : Chunks) {part : Part} {parts : List Part} → judge kind b t body ≡ fine part
+    → walk kind (after b part) (place + sizeOf 4 (length body)) rest ≡ fine parts → walk kind b place (chunk t body rest) ≡ fine (part ∷ parts)
+unfolding walk located _then_
+walk-on kind b place t body rest judged later = rw (judged, later)
+
+-- chunks, as they are written, that are judged fine one after the other, and what they contribute
+pub data Judged : Before → List (String × List ℕ) → List Part → Type 0 where
+  over : {b : Before} → Judged b [] []
+  on : {b : Before} {c : String × List ℕ} {cs : List (String × List ℕ)} {p : Part} {ps : List Part} → isTag (c .0) ≡ true
+      → judge LWO2 b (number (spelt (c .0))) (c .1) ≡ fine p → Judged (after b p) cs ps → Judged b (c ∷ cs) (p ∷ ps)
+
+-- such a chunk, as it is read
+abbrev pub asRead : String × List ℕ → Chunk
+asRead c = record { tag = number (spelt (c .0)); body = c .1 }
+
+pub row-judged : {b : Before} {cs : List (String × List ℕ)} {ps : List Part} → Judged b cs ps → length (joined (map encoded cs)) < 256 ^ 4
+    → Row (chunkOf 4) (map encoded cs) (map asRead cs)
+unfolding joined
+row-judged over small = none
+row-judged (on {c = c} {cs = cs} good judged later) small =
+    let long = length-append (encoded c) (joined (map encoded cs)) in
+    let less = shorter 4 (c .0) (c .1) good in
+    more (reads-chunk 4 (c .0) (c .1) good (omega arith)) (omega arith) (row-judged later (omega arith))
+
+pub walk-judged : {b : Before} {cs : List (String × List ℕ)} {ps : List Part} (place : ℕ) → Judged b cs ps → walk LWO2 b place (inFront (map asRead cs) finished) ≡ fine ps
+unfolding walk inFront
+walk-judged place over = refl
+walk-judged place (on {c = c} {cs = cs} good judged later) =
+    walk-on LWO2 _ place _ (c .1) (inFront (map asRead cs) finished) judged (walk-judged (place + sizeOf 4 (length (c .1))) later)
+
+-- ---- each kind of chunk
+
+-- how long the latest point list, the latest POLS and the name list are, where there are such
+abbrev pub state : Option ℕ → Option ℕ → Option ℕ → Before
+state ps gs ns = record { points = ps; polygons = gs; names = ns }
+
+judged-names : (ns : List Name) → goodNames [] ns ≡ true → judge LWO2 start (number (spelt "TAGS")) (joined (map stringBytes ns)) ≡ fine (names ns)
+unfolding judge when_read_ number
+judged-names ns ok = wholly 0 8 (ends-names ns ok)
+
+judged-points : (b : Before) (ps : List Point) → all goodPoint ps ≡ true → judge LWO2 b (number (spelt "PNTS")) (joined (map pointBytes ps)) ≡ fine (points ps)
+unfolding judge when_read_ number
+judged-points b ps ok = wholly 0 8 (ends-points ps ok)
+
+judged-run : (pointCount nameCount : ℕ) (gs ns : Option ℕ) → pointCount ≤ 2 ^ 24 → (p : Polygon) (r : List Polygon) → all (goodPolygon pointCount nameCount) (p ∷ r) ≡ true
+    → judge LWO2 (state (some pointCount) gs ns) (number (spelt "POLS")) (spelt (typeOf (p .kind)) ++ joined (map polygonBytes (p ∷ r))) ≡ fine (polygons (map (bare (p .kind)) (p ∷ r)) 0)
+unfolding judge when_read_ number
+judged-run pointCount nameCount gs ns few p r ok =
+    wholly 0 8 (ends-run pointCount nameCount (p .kind) few (good-polygon pointCount nameCount p (all-first _ p r ok) .kinds) (p ∷ r) ok)
+
+judged-pairs : (pointCount polygonCount : ℕ) (pts ns : Option ℕ) → polygonCount ≤ 2 ^ 24 → (ps : List Polygon) → length ps ≤ polygonCount → all (goodPolygon pointCount (count ns)) ps ≡ true
+    → judge LWO2 (state pts (some polygonCount) ns) (number (spelt "PTAG")) (spelt "SURF" ++ joined (map pairBytes (pairsOf 0 ps))) ≡ fine (tagging (pairsOf 0 ps))
+unfolding judge when_read_ number
+judged-pairs pointCount polygonCount pts ns few ps fits ok = wholly 0 8 (ends-pairs pointCount polygonCount (count ns) few ps fits ok)
+
+judged-surface : (b : Before) (earlier : List Name) (n : Name) (ns : List Name) (s : Surface) → goodNames earlier (n ∷ ns) ≡ true → goodSurface s ≡ true → all word32 (levels s) ≡ true
+    → judge LWO2 b (number (spelt "SURF")) (surfaceBytes n s) ≡ fine (surface n (joined (valuesOf s)))
+unfolding judge when_read_ number goodSurface
+judged-surface b earlier n ns s names-ok ok narrow =
+    wholly 0 8 (ends-surface n s (good-name earlier n ns names-ok .no-zero) (every-at _ 2 ok) narrow (every-at _ 1 ok))
+
+-- ---- the chunks of a canonical file, in front of any that follow
+
+-- how many there are, where there are any
+abbrev pub counted : {A : Type 0} → List A → Option ℕ
+counted [] = none
+counted (x ∷ xs) = some (suc (length xs))
+
+count-counted : {A : Type 0} (xs : List A) → count (counted xs) ≡ length xs
+count-counted [] = refl
+count-counted (x ∷ xs) = refl
+
+-- what a chunk that is left out where it is empty contributes
+abbrev pub unless : {A : Type 0} → (List A → Part) → List A → List Part
+unless part [] = []
+unless part (x ∷ xs) = part (x ∷ xs) ∷ []
+
+-- `next xs` is the state after the chunk of xs, and `next []` the one before it
+on-unless : {A : Type 0} {cs : List (String × List ℕ)} {ps : List Part} (tag type : String) (bytesOf : A → List ℕ) (part : List A → Part) (next : List A → Before) (xs : List A)
+    → isTag tag ≡ true → ((x : A) (xs : List A) → next (x ∷ xs) ≡ after (next []) (part (x ∷ xs)))
+    → judge LWO2 (next []) (number (spelt tag)) (spelt type ++ joined (map bytesOf xs)) ≡ fine (part xs)
+    → Judged (next xs) cs ps → Judged (next []) (unlessEmpty tag type bytesOf xs ++ cs) (unless part xs ++ ps)
+unfolding unlessEmpty
+on-unless tag type bytesOf part next [] good step judged later = later
+on-unless tag type bytesOf part next (x ∷ xs) good step judged later = on good judged (rw (step x xs) at later)
+
+pub on-names : {cs : List (String × List ℕ)} {ps : List Part} (ns : List Name) → goodNames [] ns ≡ true → Judged (state none none (counted ns)) cs ps
+    → Judged start (unlessEmpty "TAGS" "" stringBytes ns ++ cs) (unless names ns ++ ps)
+unfolding all after
+on-names ns ok later = on-unless "TAGS" "" stringBytes names (λ ns. state none none (counted ns)) ns refl (λ n ns. refl) (judged-names ns ok) later
+
+pub on-points : {cs : List (String × List ℕ)} {ps : List Part} (nms : Option ℕ) (pts : List Point) → all goodPoint pts ≡ true → Judged (state (counted pts) none nms) cs ps
+    → Judged (state none none nms) (unlessEmpty "PNTS" "" pointBytes pts ++ cs) (unless points pts ++ ps)
+unfolding all after
+on-points nms pts ok later = on-unless "PNTS" "" pointBytes points (λ pts. state (counted pts) none nms) pts refl (λ p ps. refl) (judged-points _ pts ok) later
+
+on-pairs : {cs : List (String × List ℕ)} {ps : List Part} (pts : Option ℕ) (pointCount polygonCount : ℕ) (ns : List Name) (r : List Polygon)
+    → length r ≤ polygonCount → polygonCount ≤ 2 ^ 24 → all (goodPolygon pointCount (length ns)) r ≡ true → Judged (state pts (some polygonCount) (counted ns)) cs ps
+    → Judged (state pts (some polygonCount) (counted ns)) (unlessEmpty "PTAG" "SURF" pairBytes (pairsOf 0 r) ++ cs) (unless tagging (pairsOf 0 r) ++ ps)
+unfolding all after
+on-pairs pts pointCount polygonCount ns r fits few ok later =
+    on-unless "PTAG" "SURF" pairBytes tagging (λ ts. state pts (some polygonCount) (counted ns)) (pairsOf 0 r) refl (λ t ts. refl)
+    (judged-pairs pointCount polygonCount pts (counted ns) few r fits (rw (count-counted ns) ok)) later
+
+-- what a run contributes
+unfoldable pub runParts : List Polygon → List Part
+runParts [] = []
+runParts (p ∷ r) = polygons (map (bare (p .kind)) (p ∷ r)) 0 ∷ unless tagging (pairsOf 0 (p ∷ r))
+
+some-point : (pointCount nameCount : ℕ) (p : Polygon) → goodPolygon pointCount nameCount p ≡ true → 0 < pointCount
+some-point pointCount nameCount p ok = let g = good-polygon pointCount nameCount p ok in go (p .vertices) (g .count .0) (g .vertices)
+  where
+    go : (vs : List ℕ) → 1 ≤ length vs → all (λ v. ltb v pointCount) vs ≡ true → 0 < pointCount
+    go [] long ok = absurd (omega arith)
+    go (v ∷ vs) long ok = omega (arith, ltb-true v pointCount (all-first _ v vs ok))
+
+on-run : {cs : List (String × List ℕ)} {ps : List Part} (gs : Option ℕ) (pts : List Point) (ns : List Name) → length pts ≤ 2 ^ 24 → (r : List Polygon) → length r ≤ 2 ^ 24
+    → all (goodPolygon (length pts) (length ns)) r ≡ true → ((gs : Option ℕ) → Judged (state (counted pts) gs (counted ns)) cs ps)
+    → Judged (state (counted pts) gs (counted ns)) (runChunks r ++ cs) (runParts r ++ ps)
+unfolding runChunks runParts unlessEmpty after all
+on-run gs pts ns few [] short ok later = later gs
+on-run gs [] ns few (p ∷ r) short ok later = absurd (omega (arith, some-point 0 (length ns) p (all-first (goodPolygon 0 (length ns)) p r ok)))
+on-run gs (pt ∷ pts) ns few (p ∷ r) short ok later =
+    let n : ℕ = suc (length pts) in
+    let same : length (map (bare (p .kind)) (p ∷ r)) ≡ suc (length r) = length-map (p ∷ r) (bare (p .kind)) in
+    on refl (judged-run n (length ns) gs (counted ns) few p r ok) (on-pairs (some n) n _ ns (p ∷ r) (omega arith) (omega arith) ok (later _))
+
+pub on-runs : {cs : List (String × List ℕ)} {ps : List Part} (gs : Option ℕ) (pts : List Point) (ns : List Name) → length pts ≤ 2 ^ 24 → (rs : List (List Polygon))
+    → length (joined rs) ≤ 2 ^ 24 → all (goodPolygon (length pts) (length ns)) (joined rs) ≡ true → ((gs : Option ℕ) → Judged (state (counted pts) gs (counted ns)) cs ps)
+    → Judged (state (counted pts) gs (counted ns)) (joined (map runChunks rs) ++ cs) (joined (map runParts rs) ++ ps)
+unfolding joined
+on-runs gs pts ns few [] short ok later = later gs
+on-runs {cs} {ps} gs pts ns few (r ∷ rs) short ok later =
+    let both = all-append _ r (joined rs) ok in
+    let long = length-append r (joined rs) in
+    rw (append-assoc (runChunks r) (joined (map runChunks rs)) cs, append-assoc (runParts r) (joined (map runParts rs)) ps)
+    (on-run gs pts ns few r (omega arith) (both .0) (λ gs. on-runs gs pts ns few rs (omega arith) (both .1) later))
+
+-- what the surfaces contribute
+unfoldable pub surfaceParts : List Name → List Surface → List Part
+surfaceParts [] ss = []
+surfaceParts (n ∷ ns) [] = []
+surfaceParts (n ∷ ns) (s ∷ ss) = (if eqb (s .defined) 1 then surface n (joined (valuesOf s)) ∷ [] else []) ++ surfaceParts ns ss
+
+pub on-surfaces : (b : Before) (earlier ns : List Name) (ss : List Surface) → goodNames earlier ns ≡ true → all goodSurface ss ≡ true → all (λ s. all word32 (levels s)) ss ≡ true
+    → Judged b (surfaceChunks ns ss) (surfaceParts ns ss)
+unfolding surfaceChunks surfaceParts
+on-surfaces b earlier [] ss names-ok ok narrow = over
+on-surfaces b earlier (n ∷ ns) [] names-ok ok narrow = over
+on-surfaces b earlier (n ∷ ns) (s ∷ ss) names-ok ok narrow =
+    go (eqb (s .defined) 1) (judged-surface b earlier n ns s names-ok (all-first _ s ss ok) (all-first _ s ss narrow))
+    (on-surfaces b (earlier ++ (n ∷ [])) ns ss (good-name earlier n ns names-ok .rest) (all-rest _ s ss ok) (all-rest _ s ss narrow))
+  where
+    go : (d : Bool) → judge LWO2 b (number (spelt "SURF")) (surfaceBytes n s) ≡ fine (surface n (joined (valuesOf s))) → Judged b (surfaceChunks ns ss) (surfaceParts ns ss)
+        → Judged b ((if d then ("SURF", surfaceBytes n s) ∷ [] else []) ++ surfaceChunks ns ss) ((if d then surface n (joined (valuesOf s)) ∷ [] else []) ++ surfaceParts ns ss)
+    go true judged later = unfold all after in on refl judged later
+    go false judged later = later
+
+-- what the chunks of a canonical file contribute
+abbrev pub partsOf : Mesh → List Part
+partsOf m = unless names (m .names) ++ (unless points (m .points) ++ (joined (map runParts (runs (m .polygons))) ++ surfaceParts (m .names) (m .surfaces)))

@@ -1,0 +1,1 @@
+// What follows from the rule book, as theorems: see proofs/.

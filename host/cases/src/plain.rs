@@ -1,0 +1,49 @@
+//! A mesh as plain tables, and the records that a generated file must give.
+
+/// A mesh as the tables of document 01: a point is 3 words, a polygon 3 (kind,
+/// vertex count, surface), a name its length, a record 10.
+#[derive(Clone, Debug, Default, PartialEq, Eq)]
+pub struct PlainMesh {
+    pub points: Vec<u32>,
+    pub polygons: Vec<u32>,
+    pub vertices: Vec<u32>,
+    pub names: Vec<u32>,
+    pub name_bytes: Vec<u8>,
+    pub records: Vec<u32>,
+}
+
+/// A record as it lies in the table: defined, red, green, blue, diffuse,
+/// luminosity, specular, reflection, transparency, sides.
+pub type PlainRecord = [u32; 10];
+
+const HALF: u32 = 0x3f00_0000;
+const ONE: u32 = 0x3f80_0000;
+
+/// "A name with no SURF has defined 0 and LWO2's missing values."
+pub const UNDEFINED: PlainRecord = [0, HALF, HALF, HALF, ONE, 0, 0, 0, 0, 1];
+
+impl PlainMesh {
+    pub fn point_count(&self) -> u32 {
+        (self.points.len() / 3) as u32
+    }
+
+    pub fn polygon_count(&self) -> u32 {
+        (self.polygons.len() / 3) as u32
+    }
+
+    pub fn add_polygon(&mut self, kind: u32, vertices: &[u32], surface: u32) {
+        let count = vertices.len() as u32;
+        self.polygons.extend_from_slice(&[kind, count, surface]);
+        self.vertices.extend_from_slice(vertices);
+    }
+
+    pub fn set_surface(&mut self, polygon: u32, surface: u32) {
+        self.polygons[polygon as usize * 3 + 2] = surface;
+    }
+
+    pub fn add_name(&mut self, name: &[u8], record: &PlainRecord) {
+        self.names.push(name.len() as u32);
+        self.name_bytes.extend_from_slice(name);
+        self.records.extend_from_slice(record);
+    }
+}

@@ -1,0 +1,138 @@
+//! Targeted files: for every refusal number a file at every place where
+//! document 01 allows it. What each must answer is said here, from the
+//! document, and worked out by no reader.
+
+mod body;
+mod forms;
+mod headers;
+mod items;
+mod missing;
+mod names;
+mod order;
+mod polygons;
+mod settings;
+mod surfaces;
+
+use crate::assemble::{chunk, form, join, Kind};
+use settings::Setting;
+
+/// A file that must be refused.
+#[derive(Clone, Debug)]
+pub struct Targeted {
+    /// A name of lower-case letters, digits and hyphens, unlike all others.
+    pub name: String,
+    pub file: Vec<u8>,
+    /// The number that must be told.
+    pub number: u64,
+    /// The place that must be told: "the offset of the top-level chunk's tag",
+    /// 0 for numbers 1 to 3.
+    pub place: u64,
+    /// The offset of the first byte of the header, item or string at fault.
+    /// It is not told yet; request #101 asks for it.
+    pub exact: u64,
+}
+
+/// The whole catalogue.
+pub fn targeted() -> Vec<Targeted> {
+    let mut catalogue = Catalogue { list: Vec::new() };
+    forms::add(&mut catalogue);
+    headers::add(&mut catalogue);
+    missing::add(&mut catalogue);
+    items::add(&mut catalogue);
+    polygons::add(&mut catalogue);
+    names::add(&mut catalogue);
+    surfaces::add(&mut catalogue);
+    order::add(&mut catalogue);
+    catalogue.list
+}
+
+/// A fault to be put into a file.
+pub struct Fault {
+    pub number: u64,
+    /// Where it lies, counted from the first byte of its top-level chunk.
+    pub offset: usize,
+}
+
+pub struct Catalogue {
+    list: Vec<Targeted>,
+}
+
+impl Catalogue {
+    /// A file that is refused as a whole, at 0.
+    fn add_file(&mut self, name: &str, file: Vec<u8>, number: u64) {
+        self.push(name, file, number, 0, 0);
+    }
+
+    /// A well-formed chunk with a fault inside, after the chunks of a setting:
+    /// once as the last chunk, and once with an unlisted chunk in front, which
+    /// moves it, and a cut header (4) behind, which must not be seen.
+    fn add_chunk(&mut self, name: &str, before: &Setting, chunk: &[u8], fault: Fault) {
+        self.add_last(name, before, chunk, &fault);
+        let moved = before.moved();
+        let content = join(&[&moved.content()[..], chunk, b"cut"]);
+        self.add_content(&format!("{name}-between"), &moved, content, &fault);
+    }
+
+    /// Bytes at fault that must be the last of the file.
+    fn add_tail(&mut self, name: &str, before: &Setting, tail: &[u8], fault: Fault) {
+        self.add_last(name, before, tail, &fault);
+        let moved = before.moved();
+        self.add_last(&format!("{name}-moved"), &moved, tail, &fault);
+    }
+
+    fn add_last(&mut self, name: &str, before: &Setting, tail: &[u8], fault: &Fault) {
+        let content = join(&[&before.content()[..], tail]);
+        self.add_content(name, before, content, fault);
+    }
+
+    fn add_content(&mut self, name: &str, before: &Setting, content: Vec<u8>, fault: &Fault) {
+        let place = 12 + before.content().len();
+        let file = form(before.kind, &content);
+        let name = format!("{}-{name}", before.kind.word());
+        let exact = place + fault.offset;
+        self.push(&name, file, fault.number, place as u64, exact as u64);
+    }
+
+    fn push(&mut self, name: &str, file: Vec<u8>, number: u64, place: u64, exact: u64) {
+        let letters = |c: char| c.is_ascii_lowercase() || c.is_ascii_digit() || c == '-';
+        assert!(name.chars().all(letters), "{name}");
+        self.list.push(Targeted {
+            name: format!("{number:02}-{name}"),
+            file,
+            number,
+            place,
+            exact,
+        });
+    }
+}
+
+/// An unlisted chunk of odd length, to stand in front.
+fn passed_chunk() -> Vec<u8> {
+    chunk(b"ZZZZ", b"odd")
+}
+
+/// Both kinds of file.
+const KINDS: [Kind; 2] = [Kind::Lwob, Kind::Lwo2];
+
+#[cfg(test)]
+mod tests {
+    use super::*;
+    use std::collections::{BTreeMap, HashSet};
+
+    #[test]
+    fn the_names_differ() {
+        let list = targeted();
+        let names: HashSet<&str> = list.iter().map(|one| one.name.as_str()).collect();
+        assert_eq!(names.len(), list.len());
+    }
+
+    #[test]
+    fn every_number_is_there() {
+        let mut counts: BTreeMap<u64, usize> = BTreeMap::new();
+        for one in targeted() {
+            *counts.entry(one.number).or_default() += 1;
+        }
+        let numbers: Vec<u64> = counts.keys().copied().collect();
+        assert_eq!(numbers, (2..=15).collect::<Vec<u64>>());
+    }
+}

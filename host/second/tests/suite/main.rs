@@ -1,0 +1,13 @@
+//! The tests of the second program, joined with the generated cases.
+
+mod boundary;
+mod help;
+mod mutated;
+mod program;
+mod readings;
+mod room;
+mod sample;
+mod targeted;
+mod valid;
+mod worked;
+mod writing;

@@ -1,0 +1,96 @@
+//! Mutated files: the reader answers each, a refusal changes nothing, and
+//! what is accepted is a mesh whose canonical file reads back.
+
+use std::collections::BTreeMap;
+
+use cases::mutate::mutated;
+use cases::random::Random;
+use cases::valid::valid;
+use second::{canonical, is_mesh, listing, read, Answer, Tables};
+
+use crate::help::{accepted, filled_room, needs};
+
+const FILES: u64 = 40_000;
+
+fn mutation(seed: u64) -> Vec<u8> {
+    let mut random = Random::new(seed);
+    let one = valid(&mut random);
+    mutated(&mut random, &one)
+}
+
+#[test]
+fn are_refused_or_read_whole() {
+    let mut numbers: BTreeMap<u64, u64> = BTreeMap::new();
+    for seed in 0..FILES {
+        let file = mutation(seed);
+        let answer = needs(&file);
+        if answer.number == 0 || answer.number == 16 {
+            check_accepted(seed, &file);
+            *numbers.entry(0).or_default() += 1;
+        } else {
+            check_refused(seed, &file, &answer);
+            *numbers.entry(answer.number).or_default() += 1;
+        }
+    }
+    // The mutations must reach most refusals, or they test little.
+    for number in (0..=15).filter(|&number| number != 1) {
+        let seen = numbers.get(&number).copied().unwrap_or(0);
+        assert!(seen >= 10, "number {number} came {seen} times");
+    }
+}
+
+fn check_accepted(seed: u64, file: &[u8]) {
+    let (answer, tables) = accepted(file);
+    assert!(is_mesh(&tables), "seed {seed}");
+    let mesh = second::Mesh::from_tables(&tables);
+    let (again, same) = accepted(&canonical(&mesh));
+    assert_eq!(same, tables, "seed {seed}");
+    assert_eq!(again.vertices, answer.vertices, "seed {seed}");
+}
+
+fn check_refused(seed: u64, file: &[u8], told: &Answer) {
+    let room = Answer {
+        points: 400,
+        polygons: 50,
+        vertices: 4_000,
+        names: 10,
+        name_bytes: 2_000,
+        ..Answer::default()
+    };
+    let before = filled_room(&room, [0; 6]);
+    let mut tables = before.clone();
+    assert_eq!(&read(file, &mut tables), told, "seed {seed}");
+    assert_eq!(tables, before, "seed {seed}");
+    let only_told = Answer {
+        number: told.number,
+        place: told.place,
+        ..Answer::default()
+    };
+    assert_eq!(told, &only_told, "seed {seed}");
+    let line = format!("refused {} at {}\n", told.number, told.place);
+    assert_eq!(listing(file), line, "seed {seed}");
+    assert!(
+        told.place < file.len() as u64 || told.place == 0,
+        "seed {seed}"
+    );
+}
+
+/// Every beginning of a valid file, as it is and with its FORM length put
+/// right.
+#[test]
+fn beginnings_are_answered() {
+    let mut accepted_ones = 0;
+    for seed in 0..60 {
+        let file = valid(&mut Random::new(seed)).parts.file();
+        for length in 0..file.len() {
+            let mut beginning = file[..length].to_vec();
+            let expected = if length < 12 { 2 } else { 3 };
+            let answer = read(&beginning, &mut Tables::default());
+            assert_eq!((answer.number, answer.place), (expected, 0));
+            cases::insert::correct_form_length(&mut beginning);
+            let number = needs(&beginning).number;
+            accepted_ones += u64::from(number == 0 || number == 16);
+        }
+    }
+    assert!(accepted_ones > 60);
+}

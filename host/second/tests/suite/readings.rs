@@ -1,0 +1,146 @@
+//! The example lines that show how the documents are read, one file a line:
+//! `LEVEL  FILE IN HEX -> answer   (other: the reading not taken)`.
+//!
+//! The lines of level `base` are document 01 as it stands. Those of level
+//! `101` ask for exact places and finer numbers; they are not answered yet,
+//! but a refusal already carries what they ask for, and that is tested.
+
+use second::{rules, Fault, Mesh, Record};
+
+use crate::help::{hex, mesh_of, verdict};
+
+const LINES: &str = include_str!("../readings.txt");
+
+struct Example {
+    level: &'static str,
+    file: Vec<u8>,
+    answer: &'static str,
+    other: &'static str,
+}
+
+fn examples() -> Vec<Example> {
+    LINES.lines().map(example).collect()
+}
+
+fn example(line: &'static str) -> Example {
+    let (level, rest) = line.split_once("  ").expect("a level");
+    let (file, rest) = rest.split_once(" -> ").expect("an arrow");
+    let (answer, other) = rest.split_once("   (other: ").expect("the other reading");
+    Example {
+        level,
+        file: hex(file),
+        answer,
+        other: other.strip_suffix(')').expect("a closing bracket"),
+    }
+}
+
+/// Line 27 and line 29 are told apart by their records only.
+fn differs_in_records_only(example: &Example) -> bool {
+    example.other.starts_with("same answer, ")
+}
+
+#[test]
+fn every_base_line() {
+    let mut ran = 0;
+    for example in examples() {
+        if example.level != "base" {
+            continue;
+        }
+        let told = verdict(&example.file);
+        assert_eq!(told, example.answer, "line {:02x?}", example.file);
+        if !differs_in_records_only(&example) {
+            assert_ne!(told, example.other, "line {:02x?}", example.file);
+        }
+        ran += 1;
+    }
+    let listed = LINES
+        .lines()
+        .filter(|line| line.starts_with("base "))
+        .count();
+    assert_ne!(ran, 0);
+    assert_eq!(ran, listed);
+    assert_eq!(ran, 49);
+}
+
+#[test]
+fn every_line_has_a_known_level() {
+    let levels = ["base", "all", "101", "103", "101,103"];
+    let lines = examples();
+    assert_eq!(lines.len(), 84);
+    for example in lines {
+        assert!(levels.contains(&example.level), "{}", example.level);
+    }
+}
+
+/// What the finer number of request #101 would be: an item that is cut gets
+/// 19, a string without terminator or pad gets 20.
+fn finer_number(fault: Fault) -> u64 {
+    match fault {
+        Fault::ItemCut => 19,
+        Fault::StringTerminator | Fault::StringPad => 20,
+        other => other.number(),
+    }
+}
+
+#[test]
+fn exact_places_are_carried_already() {
+    let mut ran = 0;
+    for example in examples() {
+        if example.level != "101" {
+            continue;
+        }
+        let refusal = rules(&example.file).expect_err("a refused file");
+        let (number, place) = (finer_number(refusal.fault), refusal.exact);
+        let told = format!("refused {number} at {place}");
+        assert_eq!(told, example.answer, "line {:02x?}", example.file);
+        ran += 1;
+    }
+    assert_eq!(ran, 20);
+}
+
+fn only_record(mesh: &Mesh) -> Record {
+    assert_eq!(mesh.records.len(), 1);
+    mesh.records[0]
+}
+
+/// The last FLAG's value replaces the whole earlier one: bit 8 of the first is
+/// gone, bit 0 of the second gives luminosity 1.0.
+#[test]
+fn a_repeated_flag_is_replaced_whole() {
+    let file = hex("464f524d000000284c574f42 5352465300000002 6100
+         5355524600000012 6100 464c414700020100 464c414700020001");
+    let record = only_record(&mesh_of(&file));
+    assert_eq!(record.defined, 1);
+    assert_eq!(record.sides, 1);
+    assert_eq!(record.luminosity, 0x3f80_0000);
+    assert_eq!(record.diffuse, 0);
+}
+
+/// The last VLUM wins over every LUMI, wherever they stand.
+#[test]
+fn the_last_long_form_wins() {
+    let file = hex("464f524d0000003c4c574f42 5352465300000002 6100
+         5355524600000026 6100 564c554d0004 3e800000 564c554d0004 3f000000
+         4c554d490002 0100 464c41470002 0001");
+    let record = only_record(&mesh_of(&file));
+    assert_eq!(record.luminosity, 0x3f00_0000);
+    assert_eq!(record.sides, 1);
+}
+
+/// In LWOB a SURF without DIFF or VDIF has diffuse 0, a name with no SURF has
+/// diffuse 1.0.
+#[test]
+fn missing_values_of_lwob() {
+    let with_surf = hex("464f524d000000184c574f425352465300000002610053555246000000026100");
+    let record = only_record(&mesh_of(&with_surf));
+    assert_eq!(record.defined, 1);
+    assert_eq!(record.diffuse, 0);
+    assert_eq!(record.colour, [0x3f00_0000; 3]);
+
+    let without = hex("464f524d0000000e4c574f4253524653000000026100");
+    let record = only_record(&mesh_of(&without));
+    assert_eq!(record.defined, 0);
+    assert_eq!(record.diffuse, 0x3f80_0000);
+    assert_eq!(record.colour, [0x3f00_0000; 3]);
+    assert_eq!(record.sides, 1);
+}

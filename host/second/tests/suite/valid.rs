@@ -1,0 +1,155 @@
+//! Generated valid files: what each must give is said by the generator.
+
+use cases::insert::{boundaries, with_unlisted};
+use cases::plain::PlainMesh;
+use cases::random::Random;
+use cases::valid::{valid, Valid};
+use second::{canonical, is_mesh, rules, Answer, Mesh, Tables};
+
+use crate::help::{accepted, mesh_of};
+
+/// How many files each test reads.
+const FILES: u64 = 3_000;
+
+pub fn tables_of(mesh: &PlainMesh) -> Tables {
+    Tables {
+        points: mesh.points.clone(),
+        polygons: mesh.polygons.clone(),
+        vertices: mesh.vertices.clone(),
+        names: mesh.names.clone(),
+        name_bytes: mesh.name_bytes.clone(),
+        records: mesh.records.clone(),
+    }
+}
+
+fn expected_answer(valid: &Valid) -> Answer {
+    Answer {
+        number: 0,
+        place: 0,
+        points: u64::from(valid.mesh.point_count()),
+        polygons: u64::from(valid.mesh.polygon_count()),
+        vertices: valid.mesh.vertices.len() as u64,
+        names: valid.mesh.names.len() as u64,
+        name_bytes: valid.mesh.name_bytes.len() as u64,
+        skipped: valid.skipped,
+        details: valid.details,
+    }
+}
+
+#[test]
+fn are_accepted_with_their_mesh() {
+    for seed in 0..FILES {
+        let valid = valid(&mut Random::new(seed));
+        let (answer, tables) = accepted(&valid.parts.file());
+        assert_eq!(answer, expected_answer(&valid), "seed {seed}");
+        assert_eq!(tables, tables_of(&valid.mesh), "seed {seed}");
+    }
+}
+
+/// `rules` and `read` tell of the same mesh.
+#[test]
+fn are_the_same_in_both_forms() {
+    for seed in 0..FILES {
+        let valid = valid(&mut Random::new(seed));
+        let (mesh, skipped, details) = rules(&valid.parts.file()).expect("a valid file");
+        assert_eq!(mesh.tables(), tables_of(&valid.mesh), "seed {seed}");
+        assert_eq!(Mesh::from_tables(&mesh.tables()), mesh, "seed {seed}");
+        assert_eq!((skipped, details), (valid.skipped, valid.details));
+    }
+}
+
+/// The canonical file of an accepted file reads as the same mesh, and is its
+/// own canonical file.
+#[test]
+fn have_a_canonical_file_that_stands() {
+    for seed in 0..FILES {
+        let file = valid(&mut Random::new(seed)).parts.file();
+        let (_, tables) = accepted(&file);
+        assert!(is_mesh(&tables), "seed {seed}");
+        let written = canonical(&mesh_of(&file));
+        let (answer, again) = accepted(&written);
+        assert_eq!(again, tables, "seed {seed}");
+        assert_eq!((answer.skipped, answer.details), (0, 0));
+        assert_eq!(canonical(&mesh_of(&written)), written, "seed {seed}");
+    }
+}
+
+/// One more well-formed unlisted chunk at any boundary: the same mesh, skipped
+/// and one.
+#[test]
+fn take_one_more_unlisted_chunk_anywhere() {
+    let mut inserted = 0;
+    for seed in 0..FILES / 3 {
+        let mut random = Random::new(seed);
+        let file = valid(&mut random).parts.file();
+        let (answer, tables) = accepted(&file);
+        for at in boundaries(&file) {
+            let longer = with_unlisted(&mut random, &file, at);
+            let (more, same) = accepted(&longer);
+            assert_eq!(same, tables, "seed {seed} at {at}");
+            let expected = Answer {
+                skipped: answer.skipped + 1,
+                ..answer
+            };
+            assert_eq!(more, expected, "seed {seed} at {at}");
+            inserted += 1;
+        }
+    }
+    assert!(inserted > FILES);
+}
+
+/// The generator must reach what it is for. Each count is of files among the
+/// first ones, so that a change of the generator cannot lose one unseen.
+#[test]
+fn exercise_the_rules() {
+    let files: Vec<Valid> = (0..FILES)
+        .map(|seed| valid(&mut Random::new(seed)))
+        .collect();
+    let count = |holds: &dyn Fn(&Valid) -> bool| files.iter().filter(|one| holds(one)).count();
+    let surfaces = |one: &Valid| one.mesh.polygons.chunks(3).filter(|p| p[2] != 0).count();
+    let records = |one: &Valid, word: usize, value: u32| {
+        one.mesh
+            .records
+            .chunks(10)
+            .any(|record| record[word] == value)
+    };
+    assert!(count(&|one| one.details > 0) > 100, "details");
+    assert!(count(&|one| one.skipped > 0) > 1_000, "skipped");
+    assert!(count(&|one| surfaces(one) > 0) > 500, "surfaces");
+    assert!(
+        count(&|one| one.mesh.polygons.chunks(3).any(|p| p[0] == 2)) > 300,
+        "patches"
+    );
+    assert!(
+        count(&|one| one.mesh.names.contains(&0)) > 100,
+        "empty names"
+    );
+    assert!(
+        count(&|one| one.mesh.names.contains(&255)) > 100,
+        "long names"
+    );
+    assert!(count(&|one| records(one, 0, 1)) > 500, "defined");
+    assert!(count(&|one| records(one, 0, 0)) > 500, "undefined");
+    assert!(count(&|one| records(one, 9, 3)) > 200, "two sides");
+    assert!(
+        count(&|one| one.mesh.points.contains(&0x8000_0000)) > 500,
+        "minus zero"
+    );
+    assert!(
+        count(&|one| one.mesh.points.contains(&1)) > 500,
+        "denormals"
+    );
+    assert!(
+        count(&|one| one.mesh.points.contains(&0x7f7f_ffff)) > 500,
+        "largest"
+    );
+    let tags = |one: &Valid, tag: &[u8]| {
+        let with_tag = one.parts.chunks.iter().filter(|chunk| &chunk[..4] == tag);
+        with_tag.count()
+    };
+    for tag in [b"PNTS", b"POLS", b"PTAG"] {
+        let several = |one: &Valid| tags(one, tag) > 1 && &one.parts.file()[8..12] == b"LWO2";
+        assert!(count(&several) > 300, "several {tag:?}");
+    }
+    assert!(count(&|one| tags(one, b"PCHS") > 0) > 100, "PCHS");
+}
