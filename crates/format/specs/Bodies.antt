@@ -13,7 +13,7 @@ use Rattle.format.specs.Limits.{nameLimit, lwobVertexLimit, lwobPointLim
 use Rattle.format.specs.Items.{Reader, _>>=_, give, _or_unless_, times, many, u2, u4, i2, float, vx, string}
 use Rattle.format.specs.Chunks.{ofLength, sub, unjudged}
 use Rattle.format.specs.Mesh.{Point, Polygon, FACE, PATCH, Name}
-use Rattle.format.specs.Surfaces.{Value, lwobValue, lwo2Value}
+use Rattle.format.specs.Surfaces.{Value, valueOf}
 
 -- What a chunk contributes. Vertices count from the first of the latest points, and the polygons of a tagging from the first of the latest POLS.
 pub data Part : Type 0 where
@@ -141,6 +141,9 @@ taggingBody polygonCount nameCount = do
 -- ---- surfaces
 
 -- LWOB: "name, then sub-chunks". LWO2: "name, source string (read, not used), sub-chunks".
+unfoldable pub surfaceName : Kind → Reader Name
+surfaceName LWOB = string
+surfaceName LWO2 = do n ← string; source ← string; give n
+
 unfoldable pub surfaceBody : Kind → Reader Part
-surfaceBody LWOB = do n ← string; vs ← many (sub lwobValue); give (surface n (joined vs))
-surfaceBody LWO2 = do n ← string; source ← string; vs ← many (sub lwo2Value); give (surface n (joined vs))
+surfaceBody kind = do n ← surfaceName kind; vs ← many (sub (valueOf kind)); give (surface n (joined vs))

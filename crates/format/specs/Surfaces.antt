@@ -99,6 +99,10 @@ lwo2Value t =
     else if t is "BLOK" then block
     else unlisted
 
+abbrev pub valueOf : Kind → (tag : ℕ) → Reader (List Value)
+valueOf LWOB t = lwobValue t
+valueOf LWO2 t = lwo2Value t
+
 -- ---- the record
 
 -- "a repeated sub-chunk's last value stands": word i of the last value with that tag, or `now` where there is none

@@ -14,7 +14,7 @@ use Rattle.format.specs.Items.{Verdict, fine, fault, Got, _then_, _>>=_,
 use Rattle.format.specs.Chunks.{sizeOf, lengthOf, wellFormed, chunkOf, ofLength, link, split, chunks, sub, unjudged}
 use Rattle.format.specs.Mesh.{Mesh, missing}
 use Rattle.format.specs.Surfaces.{lwobValue, nested, blockHeader, block, lwo2Value, last, recordOf}
-use Rattle.format.specs.Bodies.{point, wholePoints, pointsBody, name, namesAfter, namesBody, lwobVertices, detail, details, detailsAfter, face, facesBody, patch, patchesBody, lwo2Vertices, polygon, polygonsBody, pair, taggingBody, surfaceBody}
+use Rattle.format.specs.Bodies.{point, wholePoints, pointsBody, name, namesAfter, namesBody, lwobVertices, detail, details, detailsAfter, face, facesBody, patch, patchesBody, lwo2Vertices, polygon, polygonsBody, pair, taggingBody, surfaceName, surfaceBody}
 use Rattle.format.specs.Rules.{Outcome, refused, gives, after, when_read_, judge, located, walk, kindOf, form, judged, pointsOf, namesOf, surfacesOf, skippedOf, detailsOf, standing, retag, polygonsIn, meshOf, outcome, rules}
 use Rattle.format.specs.Canonical.{bytes, vxBytes, stringBytes, chunkBytes, polygonBytes, pairsOf, pairBytes, levelBytes, surfaceBytes, ahead, runs, unlessEmpty, runChunks, surfaceChunks, canonicalChunks, formBytes, canonical}
 
@@ -94,5 +94,5 @@ table =
     ∷ []
 
 worked : map (λ c. run (c .0)) table ≡ map (λ c. c .1) table
-unfolding digit pairs hex result run nothing case-l mesh-l table number finite over255 over256 every all sum joined same amongst numberOf _then_ _>>=_ _or_unless_ whole times upTo many item uint i2 float vx toZero string sizeOf lengthOf wellFormed chunkOf ofLength link split chunks sub unjudged lwobValue nested blockHeader block lwo2Value last recordOf point wholePoints pointsBody name namesAfter namesBody lwobVertices detail details detailsAfter face facesBody patch patchesBody lwo2Vertices polygon polygonsBody pair taggingBody surfaceBody after when_read_ judge located walk kindOf form judged pointsOf namesOf surfacesOf skippedOf detailsOf standing retag polygonsIn meshOf outcome rules bytes vxBytes stringBytes chunkBytes polygonBytes pairsOf pairBytes levelBytes surfaceBytes ahead runs unlessEmpty runChunks surfaceChunks canonicalChunks formBytes canonical
+unfolding digit pairs hex result run nothing case-l mesh-l table number finite over255 over256 every all sum joined same amongst numberOf _then_ _>>=_ _or_unless_ whole times upTo many item uint i2 float vx toZero string sizeOf lengthOf wellFormed chunkOf ofLength link split chunks sub unjudged lwobValue nested blockHeader block lwo2Value last recordOf point wholePoints pointsBody name namesAfter namesBody lwobVertices detail details detailsAfter face facesBody patch patchesBody lwo2Vertices polygon polygonsBody pair taggingBody surfaceName surfaceBody after when_read_ judge located walk kindOf form judged pointsOf namesOf surfacesOf skippedOf detailsOf standing retag polygonsIn meshOf outcome rules bytes vxBytes stringBytes chunkBytes polygonBytes pairsOf pairBytes levelBytes surfaceBytes ahead runs unlessEmpty runChunks surfaceChunks canonicalChunks formBytes canonical
 worked = refl

@@ -2,7 +2,7 @@
 use Prim.Native.Nat.{ℕ, zero, suc, _+_, _-_, _%_, _^_, _≤_, _<_}
 use Prim.Native.String.{String}
 use mathlib.Core.Path.{_≡_, refl, sym}
-use mathlib.Core.List.{List, [], _∷_, _++_, map, append-nil}
+use mathlib.Core.List.{List, [], _∷_, _++_, map, append-nil, append-assoc}
 use mathlib.Core.Bool.{Bool, true, false, _&&_, _||_, and-eq-true-iff}
 use native.Mathlib.Omega.{arith}
 use lib.Dec.{leb, ltb, eqb}
@@ -16,7 +16,7 @@ use Rattle.format.specs.declared.Kind.the-variants.{LWO2}
 use Rattle.format.specs.Chunks.{sub, fixed}
 use Rattle.format.specs.Mesh.{Point, pointWords, pointFrom, Polygon, FACE, PATCH, Name, Surface, levels}
 use Rattle.format.specs.Surfaces.{Value, value, sideNumber, lwo2Value, last, recordOf}
-use Rattle.format.specs.Bodies.{points, names, polygons, tagging, surface, point, wholePoints, pointsBody, newName, name, namesAfter, namesBody, vertex, countBits, lwo2Vertices, polygon, polygonType, polygonKind, polygonsBody, pair, taggingBody, surfaceBody}
+use Rattle.format.specs.Bodies.{points, names, polygons, tagging, surface, point, wholePoints, pointsBody, newName, name, namesAfter, namesBody, vertex, countBits, lwo2Vertices, polygon, polygonType, polygonKind, polygonsBody, pair, taggingBody, surfaceName, surfaceBody}
 use Rattle.format.specs.Canonical.{bytes, vxBytes, stringBytes, chunkBytes, pointBytes, polygonBytes, typeOf, pairsOf, pairBytes, levelBytes, surfaceBytes}
 use Rattle.format.specs.Written.{goodPolygon, noZero, goodNames}
 use Rattle.laws.proofs.Facts.{every-at, all-first, all-rest, all-part, between-true, length-entries}
@@ -270,9 +270,10 @@ row-values s known narrow sides =
 
 pub ends-surface : (n : Name) (s : Surface) → noZero n ≡ true → all finite (levels s) ≡ true → all word32 (levels s) ≡ true → sideNumber (s .sides) ≡ true
     → Ends (surfaceBody LWO2) (surfaceBytes n s) (surface n (joined (valuesOf s)))
-unfolding surfaceBody surfaceBytes joined all
+unfolding surfaceBody surfaceName surfaceBytes joined all
 ends-surface n s no-zero known narrow sides =
-    ends-then _ (reads-string n no-zero) (ends-then _ (reads-string [] refl) (ends-as (λ vs. surface n (joined vs)) (ends-many (row-values s known narrow sides))))
+    let name : Reads (surfaceName LWO2) (stringBytes n ++ stringBytes []) n = reads-then _ (reads-string n no-zero) (reads-as (λ source. n) (reads-string [] refl)) in
+    rw (← append-assoc (stringBytes n) (stringBytes [])) (ends-then _ name (ends-as (λ vs. surface n (joined vs)) (ends-many (row-values s known narrow sides))))
 
 -- the record that those values make
 pub record-back : (s : Surface) → s .defined ≡ 1 → recordOf LWO2 (joined (valuesOf s)) ≡ s

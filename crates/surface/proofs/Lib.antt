@@ -1,0 +1,6 @@
+mod Quotient
+mod Patterns
+mod Valuing
+mod Nesting
+mod Blocks
+mod Surfacing

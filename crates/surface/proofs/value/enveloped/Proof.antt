@@ -1,0 +1,17 @@
+use borrow.Author.Needs.{needs}
+use Rattle.surface.proofs.Valuing.{envelope-cut, bytes-left, envelope-last}
+use Rattle.surface.proofs.value.enveloped.Statement.{statement}
+use Rattle.surface.proofs.value.enveloped.Tie as tie
+
+returns : tie.Need-returns
+returns c = envelope-cut ((rw (c .enum-told .given .1) at (c .before .before .vx .ensures)) .says)
+
+returns-2 : tie.Need-returns-2
+returns-2 c = bytes-left ((rw (c .before .before .before .next .given .1) at (c .before .before .before .before .before .vx .ensures)) .says) (c .if1 .taken)
+
+returns-3 : tie.Need-returns-3
+returns-3 c = envelope-last ((rw (c .before .before .before .next .given .1) at (c .before .before .before .before .before .vx .ensures)) .says) (c .if1 .left) (c .before .before .before .before .before .before .before .pre)
+
+pub enveloped-spec : {M : Type 1} → statement M
+enveloped-spec =
+    tie.close (tie.spec (λ c κs. search needs) (λ c. search needs) (λ c. search needs) returns returns-2 returns-3)

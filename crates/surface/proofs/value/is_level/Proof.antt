@@ -1,0 +1,11 @@
+use borrow.Author.Needs.{needs}
+use Rattle.format.specs.Bytes.{number}
+use Rattle.surface.proofs.value.is_level.Statement.{statement}
+use Rattle.surface.proofs.value.is_level.Tie as tie
+
+returns : tie.Need-returns
+unfolding number
+returns c = search needs
+
+pub is-level-spec : {M : Type 1} → statement M
+is-level-spec = tie.close (tie.spec returns)

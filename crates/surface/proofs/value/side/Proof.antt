@@ -1,0 +1,35 @@
+use borrow.Author.Needs.{needs}
+use Rattle.format.specs.Surfaces.{sideNumber}
+use Rattle.format.specs.declared.Fault.the-variants.{SurfaceValue}
+use Rattle.format.proofs.Saying.{cut}
+use mathlib.Core.Path.{sym, _∙_}
+use Rattle.surface.proofs.Valuing.{no-value, first-bad, side-value, no-side}
+use Rattle.surface.proofs.value.side.Statement.{statement}
+use Rattle.surface.proofs.value.side.Tie as tie
+
+returns : tie.Need-returns
+returns c = no-value _ 2 (λ e. c .if1 .taken (c .before .left .ensures ∙ e))
+
+returns-2 : tie.Need-returns-2
+returns-2 c = first-bad _ 2 (search needs) (cut SurfaceValue sideNumber ((rw (c .enum-told .given .1) at (c .before .before .u2 .ensures)) .says))
+
+returns-3 : tie.Need-returns-3
+returns-3 c = side-value (search needs) (rw (c .before .before .before .n .given .1) at (c .before .before .before .before .before .u2 .ensures)) (sym (c .before .is-side .ensures) ∙ c .if2 .taken)
+
+returns-4 : tie.Need-returns-4
+returns-4 c = no-side (search needs) (rw (c .before .before .before .n .given .1) at (c .before .before .before .before .before .u2 .ensures)) (sym (c .before .is-side .ensures) ∙ c .if2 .left)
+
+pub side-spec : {M : Type 1} → statement M
+side-spec =
+    tie.close
+    (tie.spec
+    (λ c. search needs)
+    (λ c κs. search needs)
+    returns
+    (λ c κs. search needs)
+    (λ c. search needs)
+    (λ c. search needs)
+    returns-2
+    (λ c κs. search needs)
+    returns-3
+    returns-4)
