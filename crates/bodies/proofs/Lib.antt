@@ -1,0 +1,6 @@
+pub mod Floats
+pub mod Heads
+pub mod Naming
+pub mod Sameness
+pub mod Signs
+pub mod Tallying

@@ -1,0 +1,11 @@
+use borrow.Author.Needs.{needs}
+use Rattle.format.specs.Bodies.{patchesBody}
+use Rattle.bodies.proofs.patches.patches_body.Statement.{statement}
+use Rattle.bodies.proofs.patches.patches_body.Tie as tie
+
+returns : tie.Need-returns
+unfolding patchesBody
+returns c = c .entries .ensures
+
+pub patches-body-spec : {M : Type 1} → statement M
+patches-body-spec = tie.close (tie.spec (λ c κs. search needs) returns)

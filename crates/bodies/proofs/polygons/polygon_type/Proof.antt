@@ -1,0 +1,11 @@
+use borrow.Author.Needs.{needs}
+use Rattle.format.specs.Bytes.{number}
+use Rattle.bodies.proofs.polygons.polygon_type.Statement.{statement}
+use Rattle.bodies.proofs.polygons.polygon_type.Tie as tie
+
+returns : tie.Need-returns
+unfolding number
+returns c = search needs
+
+pub polygon-type-spec : {M : Type 1} → statement M
+polygon-type-spec = tie.close (tie.spec returns)

@@ -1,0 +1,64 @@
+// The body of a PTAG chunk.
+ghost use Rattle.format.specs.Bodies.{pair, taggingBody};
+ghost use Rattle.format.specs.Said.{nothing, Judged, JudgedAt};
+ghost use Rattle.wire.specs.Answers.{StepAt, checkedAs};
+ghost use Rattle.bodies.specs.Answers.{pairsOf};
+use crate::vertices::below;
+use format::Fault;
+use wire::Checked;
+use wire::Refusal;
+use wire::Step;
+use wire::cursor::Cursor;
+use wire::cursor::Item;
+use wire::cursor::Number;
+
+const SURF: u32 = 0x5355_5246;
+
+// A polygon's number and a tag's. Each is judged where it stands, and its fault is at its own place.
+fn one_pair(s: &[u8], c: Cursor, polygons: usize, names: usize) -> Step
+    ensures { λ r. ⌜ StepAt (pair polygons names) 4 (now (s .entry)) (c .at) r ⌝ }
+{
+    match below(c.vx(s), polygons, Fault::PolygonNumber) {
+        Item::Stop(why) => Step::Stop(Refusal { why, at: c.at }),
+        Item::Got(_, after) => match below(after.u2(s), names, Fault::SurfaceNumber) {
+            Item::Stop(why) => Step::Stop(Refusal { why, at: after.at }),
+            Item::Got(_, next) => Step::At(next),
+        },
+    }
+}
+
+// The pairs from a place up to the body's end.
+fn pairs(s: &[u8], from: Cursor, polygons: usize, names: usize) -> Checked
+    ensures { λ r. ⌜ JudgedAt 0 (from .at) (pairsOf polygons names) nothing (now (s .entry)) (checkedAs r) ⌝ }
+{
+    let mut at = from.at;
+    while at < s.len() {
+        match one_pair(s, Cursor { at }, polygons, names) {
+            Step::Stop(f) => {
+                return Checked::Stop(f);
+            }
+            Step::At(next) => {
+                at = next.at;
+            }
+        }
+    }
+    Checked::Fine
+}
+
+// Only tags of surfaces are judged: of another type the four bytes are required, and no more.
+pub fn tagging_body(s: &[u8], polygons: usize, names: usize) -> Checked
+    ensures { λ r. ⌜ Judged (taggingBody polygons names) nothing (now (s .entry)) (checkedAs r) ⌝ }
+{
+    let start = Cursor { at: 8 };
+    let Number::Got(t, first) = start.u4(s) else {
+        return Checked::Stop(Refusal {
+            why: Fault::ItemCut,
+            at: 8,
+        });
+    };
+    if t == SURF {
+        pairs(s, first, polygons, names)
+    } else {
+        Checked::Fine
+    }
+}
