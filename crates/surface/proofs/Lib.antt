@@ -4,3 +4,6 @@ mod Valuing
 mod Nesting
 mod Blocks
 mod Surfacing
+mod Recording
+mod Settling
+mod Bodied

@@ -1,2 +1,3 @@
 pub mod Levels
 pub mod Values
+pub mod Records

@@ -2,4 +2,5 @@
 pub mod block;
 pub mod body;
 pub mod level;
+pub mod record;
 pub mod value;
