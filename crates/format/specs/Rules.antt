@@ -1,5 +1,6 @@
 -- The rules: a file's chunks are judged in file order, and what they contribute makes the mesh.
 use Prim.Native.Nat.{ℕ, zero, suc, _+_}
+use Prim.Native.String.{String}
 use mathlib.Core.List.{List, [], _∷_, _++_, map, foldl}
 use mathlib.Core.Bool.{Bool, true, false, not, _&&_, _||_}
 use mathlib.Core.Option.{Option, none, some}
@@ -8,7 +9,7 @@ use lib.Dec.{ltb, eqb}
 use Rattle.format.specs.declared.Kind.{Kind}
 use Rattle.format.specs.declared.Kind.the-variants.{LWOB, LWO2}
 use Rattle.format.specs.declared.Fault.the-variants.{FileTooLong, NotForm, FormLength, BadHeader, OutOfOrder}
-use Rattle.format.specs.Bytes.{if_then_else_, _is_, number, sum, joined, same}
+use Rattle.format.specs.Bytes.{if_then_else_, _is_, number, all, sum, joined, same}
 use Rattle.format.specs.Limits.{fileLimit}
 use Rattle.format.specs.Refusals.{numberOf, placeOf}
 use Rattle.format.specs.Items.{Verdict, fine, fault, _then_ as _>>=_, Reader, whole}
@@ -49,7 +50,15 @@ infix 8 when_read_
 unfoldable pub when_read_ : Bool → Reader Part → List ℕ → Verdict Part
 when_read_ ok r body = if ok then whole 0 r 8 body else fault OutOfOrder 0
 
--- The listed tags of each kind of file. LWOB: "PNTS, SRFS: each at most once (5, house). POLS, PCHS: both PNTS and SRFS must come earlier."
+-- "A tag is listed only where it is named below, by kind of file and level": at the top level these are listed.
+abbrev pub listedTags : Kind → List String
+listedTags LWOB = "PNTS" ∷ "SRFS" ∷ "POLS" ∷ "PCHS" ∷ "SURF" ∷ []
+listedTags LWO2 = "PNTS" ∷ "TAGS" ∷ "POLS" ∷ "PTAG" ∷ "SURF" ∷ []
+
+abbrev pub unlistedTag : Kind → (tag : ℕ) → Bool
+unlistedTag kind t = all (λ tag. not (t is tag)) (listedTags kind)
+
+-- How each is judged. LWOB: "PNTS, SRFS: each at most once (5, house). POLS, PCHS: both PNTS and SRFS must come earlier."
 -- LWO2: "TAGS: at most once (house). POLS needs an earlier PNTS. PTAG needs an earlier POLS (5)." "Unlisted tags are skipped."
 unfoldable pub judge : Kind → Before → (tag : ℕ) → List ℕ → Verdict Part
 judge LWOB b t =

@@ -1,7 +1,6 @@
 -- A whole chunk with an unlisted tag, put in between two chunks of a file that the rules give a mesh, changes only the skipped count. It is shown over
 -- chunks, and then over the bytes of two files; one argument serves LWOB and LWO2. Assumes nothing.
 use Prim.Native.Nat.{ℕ, _+_, _≤_}
-use Prim.Native.String.{String}
 use mathlib.Core.Path.{_≡_, refl, ap, _∙_}
 use mathlib.Core.List.{List, [], _∷_, _++_, map}
 use mathlib.Core.Bool.{Bool, true, not}
@@ -17,7 +16,7 @@ use Rattle.format.specs.declared.Kind.the-variants.{LWOB, LWO2}
 use Rattle.format.specs.Chunks.{Chunk, sizeOf, lengthOf, wellFormed, Chunks, finished, broken, chunk, chunks}
 use Rattle.format.specs.Mesh.{Mesh, Polygon}
 use Rattle.format.specs.Bodies.{Part, points, names, polygons, tagging, surface, skipped}
-use Rattle.format.specs.Rules.{Before, start, after, judge, located, walk, pointsOf, namesOf, surfacesOf, skippedOf, detailsOf, polygonsIn, meshOf, gives, form, outcome, rules}
+use Rattle.format.specs.Rules.{unlistedTag, Before, start, after, judge, located, walk, pointsOf, namesOf, surfacesOf, skippedOf, detailsOf, polygonsIn, meshOf, gives, form, outcome, rules}
 use Rattle.format.specs.Canonical.{formBytes}
 use Rattle.laws.proofs.Facts.{impossible, all-at}
 use Rattle.laws.proofs.Reading.{then-fine}
@@ -28,16 +27,8 @@ use Rattle.laws.proofs.Form.{typeOfKind, isByte, outcomeOf, rules-form,
 
 -- ---- unlisted tags
 
--- the tags that are listed at the top level, by kind of file
-abbrev pub listedTags : Kind → List String
-listedTags LWOB = "PNTS" ∷ "SRFS" ∷ "POLS" ∷ "PCHS" ∷ "SURF" ∷ []
-listedTags LWO2 = "PNTS" ∷ "TAGS" ∷ "POLS" ∷ "PTAG" ∷ "SURF" ∷ []
-
-abbrev pub unlisted : Kind → ℕ → Bool
-unlisted kind t = all (λ tag. not (t is tag)) (listedTags kind)
-
 -- such a chunk is skipped, whatever stands before it and whatever it holds
-pub skips : (kind : Kind) (b : Before) (t : ℕ) (body : List ℕ) → unlisted kind t ≡ true → judge kind b t body ≡ fine skipped
+pub skips : (kind : Kind) (b : Before) (t : ℕ) (body : List ℕ) → unlistedTag kind t ≡ true → judge kind b t body ≡ fine skipped
 unfolding judge
 skips LWOB b t body u =
     rw (not-true (t is "PNTS") (all-at _ _ 0 u), not-true (t is "SRFS") (all-at _ _ 1 u), not-true (t is "POLS") (all-at _ _ 2 u), not-true (t is "PCHS") (all-at _ _ 3 u), not-true (t is "SURF") (all-at _ _ 4 u))
@@ -82,7 +73,7 @@ record Inserted (kind : Kind) (b : Before) (place : ℕ) (cs : Chunks) (parts : 
   whole : front ++ back ≡ parts
   walks : walk kind b place cs ≡ fine (front ++ skipped ∷ back)
 
-put-in : (kind : Kind) (b : Before) (p q t : ℕ) (body : List ℕ) (cs : List Chunk) (rest : Chunks) (parts : List Part) → unlisted kind t ≡ true
+put-in : (kind : Kind) (b : Before) (p q t : ℕ) (body : List ℕ) (cs : List Chunk) (rest : Chunks) (parts : List Part) → unlistedTag kind t ≡ true
     → walk kind b p (inFront cs rest) ≡ fine parts → Inserted kind b q (inFront cs (chunk t body rest)) parts
 unfolding inFront after
 put-in kind b p q t body [] rest parts u e =
@@ -127,7 +118,7 @@ mesh-same kind ps qs = rw (lists pointsOf refl ps qs, lists namesOf refl ps qs, 
 -- ---- over chunks
 
 -- chunks cs in front of others, and the same with one chunk more between them
-pub inserted-chunk : (kind : Kind) (cs : List Chunk) (t : ℕ) (body : List ℕ) (rest : Chunks) (m : Mesh) (k d : ℕ) → unlisted kind t ≡ true
+pub inserted-chunk : (kind : Kind) (cs : List Chunk) (t : ℕ) (body : List ℕ) (rest : Chunks) (m : Mesh) (k d : ℕ) → unlistedTag kind t ≡ true
     → outcomeOf kind (inFront cs rest) ≡ gives m k d → outcomeOf kind (inFront cs (chunk t body rest)) ≡ gives m (1 + k) d
 unfolding outcome skippedOf detailsOf _then_
 inserted-chunk kind cs t body rest m k d u e =
@@ -142,7 +133,7 @@ inserted-chunk kind cs t body rest m k d u e =
 pub record UnlistedChunk (kind : Kind) (c : List ℕ) : Type 0 where
   pub formed : wellFormed 4 c ≡ true
   pub exact : length c ≡ sizeOf 4 (lengthOf 4 c)
-  pub tag : unlisted kind (number (take 4 c)) ≡ true
+  pub tag : unlistedTag kind (number (take 4 c)) ≡ true
 
 -- Two files of one kind. The chunks of the first are those of a and x, and of the second those of a, c and x. That a holds whole chunks says that c stands
 -- where a chunk ends.
