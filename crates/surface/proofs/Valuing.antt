@@ -24,7 +24,7 @@ use Rattle.surface.specs.declared.value.Shading.{Shading}
 use Rattle.surface.specs.declared.value.Value.{Value}
 use Rattle.surface.specs.declared.value.Valued.{Valued}
 use Rattle.surface.specs.Levels.{HasBits, bits, LevelOf, ColourOf}
-use Rattle.surface.specs.Values.{colourTag, flagTag, sideTag, levelTag, longTag, wordsOf, ValueKnown, ValuedAt, EnvelopedAt}
+use Rattle.surface.specs.Values.{colourTag, flagTag, sideTag, levelTag, longTag, wordsOf, ValueKnown, ValuedAt, RestAt, envelopeAfter, blueAfter, greenAfter}
 use Rattle.surface.proofs.Patterns.{no-nan, has-bits, bits-back}
 
 -- ---- a fixed length
@@ -109,40 +109,39 @@ module _ {s : List ℕ} {head : ℕ} where
   no-side n w e = first-bad _ 2 n (bad SurfaceValue sideNumber (w .says) e)
 
   -- from the envelope on
-  module _ {at : ℕ} {v : Value} where
-    pub envelope-cut : {p : ℕ} → Says vx itself s at (fault ItemCut p) → EnvelopedAt head s at v (Valued.Stop (record { why = ItemCut; at = p }))
+  module _ {at : ℕ} (v : Value) where
+    pub envelope-cut : {p : ℕ} → Says vx itself s at (fault ItemCut p) → RestAt (envelopeAfter v) head s at (Valued.Stop (record { why = ItemCut; at = p }))
     envelope-cut w = record { judged = judged-off _ w; known = tt }
 
-    pub bytes-left : {e next : ℕ} → Says vx itself s at (got s e next) → next < length s → EnvelopedAt head s at v (Valued.Stop (record { why = WrongLength; at = head }))
+    pub bytes-left : {e next : ℕ} → Says vx itself s at (got s e next) → next < length s → RestAt (envelopeAfter v) head s at (Valued.Stop (record { why = WrongLength; at = head }))
     bytes-left w l = record { judged = judged-on _ w (left-over (given refl) l); known = tt }
 
-    pub envelope-last : {e next : ℕ} → Says vx itself s at (got s e next) → length s ≤ next → ValueKnown v → EnvelopedAt head s at v (Valued.Got v)
+    pub envelope-last : {e next : ℕ} → Says vx itself s at (got s e next) → length s ≤ next → ValueKnown v → RestAt (envelopeAfter v) head s at (Valued.Got v)
     envelope-last w l k = record { judged = judged-on _ w (used-up (given refl) l); known = k }
 
-  pub level-enveloped : (w : Shading) {v next : ℕ} {answer : Valued} → FloatRead v → Says float itself s (head + 6) (got s v next) → EnvelopedAt head s next (Value.Level w (ofBits binary32 v)) answer
+  pub level-enveloped : (w : Shading) {v next : ℕ} {answer : Valued} → FloatRead v → Says float itself s (head + 6) (got s v next) → RestAt (envelopeAfter (Value.Level w (ofBits binary32 v))) head s next answer
       → ValuedAt (envelopedLevel (levelTag w)) head s answer
   level-enveloped which f w e = record { judged = judged-on _ w (rw (f .back) at (e .judged)); known = e .known }
 
   pub level-bad : (w : Shading) {why : Fault} {p : ℕ} → Says float itself s (head + 6) (fault why p) → ValuedAt (envelopedLevel (levelTag w)) head s (Valued.Stop (record { why = why; at = p }))
   level-bad which w = record { judged = judged-off _ w; known = tt }
 
-  pub red-bad : {why : Fault} {p : ℕ} → Says float itself s (head + 6) (fault why p) → ValuedAt (floatColour colourTag) head s (Valued.Stop (record { why = why; at = p }))
-  red-bad w = record { judged = judged-off _ w; known = tt }
+  -- a rest whose first item is at fault
+  pub float-bad : (k : ℕ → Reader (List Words)) {at : ℕ} {why : Fault} {p : ℕ} → Says float itself s at (fault why p) → RestAt (float >>= k) head s at (Valued.Stop (record { why = why; at = p }))
+  float-bad k w = record { judged = judged-off k w; known = tt }
 
-  module _ {r second : ℕ} (red : Says float itself s (head + 6) (got s r second)) where
-    pub green-bad : {why : Fault} {p : ℕ} → Says float itself s second (fault why p) → ValuedAt (floatColour colourTag) head s (Valued.Stop (record { why = why; at = p }))
-    green-bad w = record { judged = judged-on _ red (judged-off _ w); known = tt }
+  -- a colour, level by level
+  pub blue-last : (r g : Float) {at b next : ℕ} {answer : Valued} → FloatRead b → Says float itself s at (got s b next) → RestAt (envelopeAfter (Value.Colour r g (ofBits binary32 b))) head s next answer
+      → RestAt (blueAfter (bits r) (bits g)) head s at answer
+  blue-last r g f w e = record { judged = judged-on _ w (rw (f .back) at (e .judged)); known = e .known }
 
-    module _ {g third : ℕ} (green : Says float itself s second (got s g third)) where
-      pub blue-bad : {why : Fault} {p : ℕ} → Says float itself s third (fault why p) → ValuedAt (floatColour colourTag) head s (Valued.Stop (record { why = why; at = p }))
-      blue-bad w = record { judged = judged-on _ red (judged-on _ green (judged-off _ w)); known = tt }
+  pub green-next : (r : Float) {at g next : ℕ} {answer : Valued} → FloatRead g → Says float itself s at (got s g next) → RestAt (blueAfter (bits r) (bits (ofBits binary32 g))) head s next answer
+      → RestAt (greenAfter (bits r)) head s at answer
+  green-next r f w e = record { judged = judged-on _ w (rw (f .back) at (e .judged)); known = e .known }
 
-      pub colour-enveloped : {b next : ℕ} {answer : Valued} → Says float itself s third (got s b next) → FloatRead r → FloatRead g → FloatRead b
-          → EnvelopedAt head s next (Value.Colour (ofBits binary32 r) (ofBits binary32 g) (ofBits binary32 b)) answer → ValuedAt (floatColour colourTag) head s answer
-      colour-enveloped blue x y z e = record {
-        judged = judged-on _ red (judged-on _ green (judged-on _ blue (rw (x .back, y .back, z .back) at (e .judged))));
-        known = e .known;
-      }
+  pub red-first : {at r next : ℕ} {answer : Valued} → FloatRead r → Says float itself s at (got s r next) → RestAt (greenAfter (bits (ofBits binary32 r))) head s next answer
+      → RestAt (floatColour colourTag) head s at answer
+  red-first f w e = record { judged = judged-on _ w (rw (f .back) at (e .judged)); known = e .known }
 
 -- ---- by tag
 

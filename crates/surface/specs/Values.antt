@@ -3,7 +3,7 @@ use Prim.Native.Nat.{ℕ, _+_, _≤_}
 use mathlib.Core.List.{List, [], _∷_}
 use lib.ListN.{length}
 use Rattle.format.specs.declared.Kind.{Kind}
-use Rattle.format.specs.Items.{Verdict, fine, fault, Got, Reader, _>>=_, give, vx}
+use Rattle.format.specs.Items.{Verdict, fine, fault, Got, Reader, _>>=_, give, float, vx}
 use Rattle.format.specs.Chunks.{sub}
 use Rattle.format.specs.Surfaces.{Value as Words, value, valueOf, nested}
 use Rattle.format.specs.Bodies.{surfaceName}
@@ -70,15 +70,23 @@ abbrev pub ValuedKnown : Valued → Type 0
 ValuedKnown (Valued.Got v) = ValueKnown v
 ValuedKnown (Valued.Stop f) = Unit
 
--- the body of a sub-chunk whose header stands at `head`
-pub record ValuedAt (r : Reader (List Words)) (head : ℕ) (s : List ℕ) (answer : Valued) : Type 0 where
-  pub judged : JudgedAt head (head + 6) r itself s (valuedAs answer)
+-- the body of a sub-chunk whose header stands at `head`, or the rest of it from a place on
+pub record RestAt (r : Reader (List Words)) (head : ℕ) (s : List ℕ) (at : ℕ) (answer : Valued) : Type 0 where
+  pub judged : JudgedAt head at r itself s (valuedAs answer)
   pub known : ValuedKnown answer
 
--- the end of such a body, from the envelope on
-pub record EnvelopedAt (head : ℕ) (s : List ℕ) (at : ℕ) (v : Value) (answer : Valued) : Type 0 where
-  pub judged : JudgedAt head at (vx >>= (λ envelope. give (wordsOf v))) itself s (valuedAs answer)
-  pub known : ValuedKnown answer
+abbrev pub ValuedAt : Reader (List Words) → (head : ℕ) → List ℕ → Valued → Type 0
+ValuedAt r head s answer = RestAt r head s (head + 6) answer
+
+-- the rest of LWO2's levels and colours, from an item on
+abbrev pub envelopeAfter : Value → Reader (List Words)
+envelopeAfter v = do envelope ← vx; give (wordsOf v)
+
+abbrev pub blueAfter : (r g : ℕ) → Reader (List Words)
+blueAfter r g = do b ← float; envelope ← vx; give (value colourTag (r ∷ g ∷ b ∷ []))
+
+abbrev pub greenAfter : (r : ℕ) → Reader (List Words)
+greenAfter r = do g ← float; b ← float; envelope ← vx; give (value colourTag (r ∷ g ∷ b ∷ []))
 
 -- ---- nesting
 

@@ -5,7 +5,8 @@ ghost use mathlib.Core.Bool.{true, _||_};
 ghost use Prim.Native.Nat.{_+_, _≤_};
 ghost use lib.ListN.{length};
 ghost use Rattle.format.specs.Surfaces.{level, floatLevel, byteColour, shortLevel, longLevel, flags, lwobValue, floatColour, envelopedLevel, sideNumber, side, block, lwo2Value};
-ghost use Rattle.surface.specs.Values.{colourTag, flagTag, sideTag, levelTag, longTag, ValueKnown, ValuedAt, EnvelopedAt};
+ghost use Rattle.surface.specs.Levels.{HasBits, bits};
+ghost use Rattle.surface.specs.Values.{colourTag, flagTag, sideTag, levelTag, longTag, ValueKnown, ValuedAt, RestAt, envelopeAfter, blueAfter, greenAfter};
 use crate::block::block;
 use crate::level::colour;
 use crate::level::level;
@@ -228,7 +229,7 @@ pub fn lwob_value(s: &[u8], head: usize, tag: u32) -> Valued
 // The envelope, a VX that is dropped, and the end of the body.
 fn enveloped(s: &[u8], head: usize, c: Cursor, value: Value) -> Valued
     requires { ⌜ ValueKnown value ⌝ }
-    ensures { λ r. ⌜ EnvelopedAt head (now (s .entry)) (c .at) value r ⌝ }
+    ensures { λ r. ⌜ RestAt (envelopeAfter value) head (now (s .entry)) (c .at) r ⌝ }
 {
     let at = c.at;
     let Number::Got(_, next) = c.vx(s) else {
@@ -261,6 +262,33 @@ fn enveloped_level(s: &[u8], head: usize, which: Shading) -> Valued
     }
 }
 
+// A colour's last level, after the two before it.
+fn blue(s: &[u8], head: usize, c: Cursor, red: f32, green: f32) -> Valued
+    requires { ⌜ HasBits red × HasBits green ⌝ }
+    ensures { λ r. ⌜ RestAt (blueAfter (bits red) (bits green)) head (now (s .entry)) (c .at) r ⌝ }
+{
+    match c.float(s) {
+        Item::Stop(why) => Valued::Stop(Refusal { why, at: c.at }),
+        Item::Got(b, next) => {
+            let blue = f32::from_bits(b);
+            enveloped(s, head, next, Value::Colour(red, green, blue))
+        }
+    }
+}
+
+fn green_and_blue(s: &[u8], head: usize, c: Cursor, red: f32) -> Valued
+    requires { ⌜ HasBits red ⌝ }
+    ensures { λ r. ⌜ RestAt (greenAfter (bits red)) head (now (s .entry)) (c .at) r ⌝ }
+{
+    match c.float(s) {
+        Item::Stop(why) => Valued::Stop(Refusal { why, at: c.at }),
+        Item::Got(g, next) => {
+            let green = f32::from_bits(g);
+            blue(s, head, next, red, green)
+        }
+    }
+}
+
 fn float_colour(s: &[u8], head: usize) -> Valued
     requires { ⌜ head + 6 ≤ length (now s) ⌝ }
     ensures { λ r. ⌜ ValuedAt (floatColour colourTag) head (now (s .entry)) r ⌝ }
@@ -269,23 +297,9 @@ fn float_colour(s: &[u8], head: usize) -> Valued
     let c = Cursor { at };
     match c.float(s) {
         Item::Stop(why) => Valued::Stop(Refusal { why, at }),
-        Item::Got(r, second) => {
-            let middle = second.at;
-            match second.float(s) {
-                Item::Stop(why) => Valued::Stop(Refusal { why, at: middle }),
-                Item::Got(g, third) => {
-                    let last = third.at;
-                    match third.float(s) {
-                        Item::Stop(why) => Valued::Stop(Refusal { why, at: last }),
-                        Item::Got(b, next) => {
-                            let red = f32::from_bits(r);
-                            let green = f32::from_bits(g);
-                            let blue = f32::from_bits(b);
-                            enveloped(s, head, next, Value::Colour(red, green, blue))
-                        }
-                    }
-                }
-            }
+        Item::Got(r, next) => {
+            let red = f32::from_bits(r);
+            green_and_blue(s, head, next, red)
         }
     }
 }

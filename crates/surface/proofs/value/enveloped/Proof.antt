@@ -4,13 +4,13 @@ use Rattle.surface.proofs.value.enveloped.Statement.{statement}
 use Rattle.surface.proofs.value.enveloped.Tie as tie
 
 returns : tie.Need-returns
-returns c = envelope-cut ((rw (c .enum-told .given .1) at (c .before .before .vx .ensures)) .says)
+returns c = envelope-cut (c .before .before .before .before .args .value) ((rw (c .enum-told .given .1) at (c .before .before .vx .ensures)) .says)
 
 returns-2 : tie.Need-returns-2
-returns-2 c = bytes-left ((rw (c .before .before .before .next .given .1) at (c .before .before .before .before .before .vx .ensures)) .says) (c .if1 .taken)
+returns-2 c = bytes-left (c .before .before .before .before .before .before .before .args .value) ((rw (c .before .before .before .next .given .1) at (c .before .before .before .before .before .vx .ensures)) .says) (c .if1 .taken)
 
 returns-3 : tie.Need-returns-3
-returns-3 c = envelope-last ((rw (c .before .before .before .next .given .1) at (c .before .before .before .before .before .vx .ensures)) .says) (c .if1 .left) (c .before .before .before .before .before .before .before .pre)
+returns-3 c = envelope-last (c .before .before .before .before .before .before .before .args .value) ((rw (c .before .before .before .next .given .1) at (c .before .before .before .before .before .vx .ensures)) .says) (c .if1 .left) (c .before .before .before .before .before .before .before .pre)
 
 pub enveloped-spec : {M : Type 1} → statement M
 enveloped-spec =
