@@ -7,7 +7,13 @@ use native.Mathlib.Nat.{add-zero}
 use native.Mathlib.Omega.{arith}
 use lib.ListN.{length, take, drop, getD, set, length-take, length-drop, length-append, length-set, take-append-drop}
 use lib.Seq.{take-at, drop-append-add, drop-drop, drop-cons, set-at}
+use Rattle.format.specs.Bytes.{joined}
 use Rattle.format.specs.Said.{Put}
+
+pub joined-append : {A : Type 0} (xss yss : List (List A)) → joined (xss ++ yss) ≡ joined xss ++ joined yss
+unfolding joined
+joined-append [] yss = refl
+joined-append (xs ∷ xss) yss = rw (joined-append xss yss, append-assoc)
 
 pub put-none : (t : List ℕ) (m : ℕ) → Put t m [] t
 put-none t m = record { put = sym (rw (append-nil, add-zero m) (take-append-drop m t)) }

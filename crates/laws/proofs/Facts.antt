@@ -1,7 +1,7 @@
 -- Facts about tests and lists that the theorems use. Assumes nothing.
 use Prim.Native.Nat.{ℕ, zero, suc, _*_, _≤_}
 use mathlib.Core.Path.{_≡_, refl, _∙_}
-use mathlib.Core.List.{List, [], _∷_, _++_, map, append-assoc}
+use mathlib.Core.List.{List, [], _∷_, _++_, map}
 use mathlib.Core.Bool.{Bool, true, false, _&&_, false≢true, and-eq-true-iff}
 use native.Mathlib.Omega.{arith}
 use lib.Dec.{leb}
@@ -60,11 +60,6 @@ pub between-true : (least most n : ℕ) → between least most n ≡ true → (l
 between-true least most n e = let both = and-eq-true-iff (leb least n) (leb n most) .0 e in (leb-true least n (both .0), leb-true n most (both .1))
 
 -- ---- joined lists
-
-pub joined-append : {A : Type 0} (xss yss : List (List A)) → joined (xss ++ yss) ≡ joined xss ++ joined yss
-unfolding joined
-joined-append [] yss = refl
-joined-append (xs ∷ xss) yss = rw (joined-append xss yss, append-assoc)
 
 pub length-entries : {A : Type 0} (n : ℕ) (f : A → List ℕ) → ((x : A) → length (f x) ≡ n) → (xs : List A) → length (joined (map f xs)) ≡ length xs * n
 unfolding joined
