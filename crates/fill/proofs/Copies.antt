@@ -130,6 +130,15 @@ burnt (suc fuel) earlier s at some enough =
     let e : suc fuel - 1 ≡ fuel = omega arith in
     rw (drop-cons s at 0 some, e)
 
+-- what a name of n bytes that is read up to a place needs of the tables
+pub record NameRoom {s lengths₀ : List ℕ} {k : ℕ} {bytes₀ : List ℕ} {b at i m : ℕ} {lengths bytes : List ℕ} (f : NamesFilling s lengths₀ k bytes₀ b at i m lengths bytes) (n next : ℕ) : Type 0 where
+  pub short : n ≤ 255
+  pub there : at + n ≤ length s
+  pub moves : at + n < next
+  pub index : i < length lengths
+  pub fit : m + n ≤ length bytes
+  pub fits : m + n < 2 ^ 64
+
 -- a name and those after it are fine: the name is a new one, and those after it are fine
 after-name : (earlier : List Name) (fuel at : ℕ) (here : List ℕ) (g : Got Name) (t : Bool) → string at here ≡ fine g → newName earlier (g .value) ≡ t
     → {y : Got (List Name)} → (name earlier >>= (λ n. namesAfter fuel (earlier ++ (n ∷ [])) >>= (λ ns. give (n ∷ ns)))) at here ≡ fine y
@@ -172,17 +181,25 @@ module _ {s lengths₀ : List ℕ} {k : ℕ} {bytes₀ : List ℕ} {b at i m : �
           first true b q = refl
           first false b q = q
 
-      -- its length and its bytes have room
-      pub rooms : (i < length lengths₀) × (m + n ≤ length bytes₀)
+      pub rooms : NameRoom f n (c .at)
       unfolding joined
       rooms =
           let x = take n (drop at s) in
           let y = name-next in
-          let l : length (f .done ++ (x ∷ y .later)) ≡ length (f .room .listed) = ap length (ap (λ z. f .done ++ z) (sym (y .is)) ∙ f .all) in
-          let j : length (joined (f .done) ++ (x ++ joined (y .later))) ≡ length (joined (f .room .listed)) = ap length (sym (joined-append (f .done) (x ∷ y .later))) ∙ ap (λ z. length (joined z)) (ap (λ z. f .done ++ z) (sym (y .is)) ∙ f .all) in
+          let whole-list : f .done ++ (x ∷ y .later) ≡ f .room .listed = ap (λ z. f .done ++ z) (sym (y .is)) ∙ f .all in
+          let l : length (f .done ++ (x ∷ y .later)) ≡ length (f .room .listed) = ap length whole-list in
+          let j : length (joined (f .done) ++ (x ++ joined (y .later))) ≡ length (joined (f .room .listed)) = ap length (sym (joined-append (f .done) (x ∷ y .later))) ∙ ap (λ z. length (joined z)) whole-list in
           let l′ = simp length-append at l in
           let j′ = simp length-append at j in
-          (omega (arith, l′, f .here, f .room .lengths-fit), omega (arith, j′, f .there, f .room .bytes-fit, inside w .2))
+          let k = inside w in
+          record {
+            short = y .short;
+            there = omega (arith, k);
+            moves = k .0;
+            index = omega (arith, l′, f .here, f .room .lengths-fit, f .kept-lengths);
+            fit = omega (arith, j′, f .there, f .room .bytes-fit, f .kept-bytes, k .2);
+            fits = omega (arith, j′, f .there, f .room .bytes-fit, f .bounded, k .2);
+          }
 
       pub names-turn : {bytes′ : List ℕ} → Put bytes m (take n (drop at s)) bytes′ → NamesFilling s lengths₀ k bytes₀ b (c .at) (i + 1) (m + n) (set lengths i n) bytes′
       unfolding joined
@@ -210,9 +227,9 @@ module _ {s lengths₀ : List ℕ} {k : ℕ} {bytes₀ : List ℕ} {b at i m : �
             there = omega (arith, size, f .there);
             bounded = f .bounded;
             kept-lengths = length-set lengths i n ∙ f .kept-lengths;
-            kept-bytes = put-length p (omega (arith, rooms .1, long, f .kept-bytes)) ∙ f .kept-bytes;
-            put-lengths = rw (two, place) (put-snoc (f .put-lengths) n (omega (arith, rooms .0, place)));
-            put-bytes = rw one (put-append (f .put-bytes) (rw (f .there) at p) (omega (arith, rooms .1, long, f .there)));
+            kept-bytes = put-length p (omega (arith, rooms .fit, long)) ∙ f .kept-bytes;
+            put-lengths = rw (two, place) (put-snoc (f .put-lengths) n (omega (arith, rooms .index, f .kept-lengths, place)));
+            put-bytes = rw one (put-append (f .put-bytes) (rw (f .there) at p) (omega (arith, rooms .fit, f .kept-bytes, long, f .there)));
           }
 
   pub names-end : length s ≤ at → NamesPut s lengths₀ k lengths bytes₀ b bytes

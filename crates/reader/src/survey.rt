@@ -54,26 +54,24 @@ pub fn survey(file: &[u8], kind: Kind) -> Surveyed
     let mut at = 12;
     let mut seen = nothing_seen();
     while at < file.len() {
-        match chunk_at(file, Cursor { at }) {
-            Header::Bad => {
+        let Header::Got { tag, end, next } = chunk_at(file, Cursor { at }) else {
+            return Surveyed::Refused(Refusal {
+                why: Fault::BadHeader,
+                at,
+            });
+        };
+        match step(&file[at..end], kind, tag, seen) {
+            Stepped::Stop(f) => {
+                let why = f.why;
                 return Surveyed::Refused(Refusal {
-                    why: Fault::BadHeader,
-                    at,
+                    why,
+                    at: place(at, f.at),
                 });
             }
-            Header::Got { tag, end, next } => match step(&file[at..end], kind, tag, seen) {
-                Stepped::Stop(f) => {
-                    let why = f.why;
-                    return Surveyed::Refused(Refusal {
-                        why,
-                        at: place(at, f.at),
-                    });
-                }
-                Stepped::Go(later) => {
-                    seen = later;
-                    at = next.at;
-                }
-            },
+            Stepped::Go(later) => {
+                seen = later;
+                at = next.at;
+            }
         }
     }
     let totals = seen.totals;

@@ -1,9 +1,10 @@
 use borrow.Author.Needs.{needs}
-use Prim.Native.Nat.{ℕ, _+_, _-_, _≤_}
+use Prim.Native.Nat.{_-_}
 use native.Mathlib.Omega.{arith}
 use lib.ListN.{length}
-use Rattle.fill.proofs.Copies.{NamesFilling, names-begin, never-open, name-next, rooms, names-turn, names-end}
-use Rattle.bodies.proofs.Naming.{inside}
+use Rattle.fill.proofs.Copies.{NamesFilling, names-begin, never-open, NameRoom, rooms, names-turn, names-end}
+use Rattle.wire.specs.declared.cursor.Text.{Text}
+use Rattle.wire.specs.Answers.{TextAt}
 use Rattle.fill.proofs.names.put_names.Statement.{statement}
 use Rattle.fill.proofs.names.put_names.Tie as tie
 
@@ -16,64 +17,45 @@ abbrev μ-loop : tie.MeasureT-loop
 loop-holds : tie.Need-loop-holds Inv-loop μ-loop
 loop-holds c = names-begin (search needs) (c .before .before .before .pre)
 
+-- the name of this turn, and what it needs
+text : (x : tie.After-n Inv-loop μ-loop) → TextAt (x .before .before .before .before .before .before .before .before .args .s .now) (x .before .before .before .before .loop .at) (Text.Got (x .n .given .0 .0) (x .n .given .0 .1 .0))
+text x = rw (x .n .given .1) at (x .before .before .string .ensures)
+
+room : (x : tie.After-n Inv-loop μ-loop) → NameRoom (x .before .before .before .before .loop .inv) (x .n .given .0 .0) (x .n .given .0 .1 .0 .at)
+room x = rooms (x .before .before .before .before .loop .inv) (x .before .before .before .loop-test .taken) (text x)
+
 returns : tie.Need-returns Inv-loop μ-loop
 returns c =
     let u = c .before .before in
     absurd (never-open (u .before .before .loop .inv) (u .before .loop-test .taken) (rw (c .enum-told .given .1) at (u .string .ensures)))
 
 cast-lengths : tie.Need-cast-lengths Inv-loop μ-loop
-cast-lengths c =
-    let x = c .before in
-    let u = x .before .before in
-    let y = name-next (u .before .before .loop .inv) (u .before .loop-test .taken) (rw (x .n .given .1) at (u .string .ensures)) in
-    search (needs, y)
+cast-lengths c = let r = room (c .before) in search (needs, r)
 
 mul-lengths : tie.Need-mul-lengths Inv-loop μ-loop
-mul-lengths c =
-    let x = c .before in
-    let u = x .before .before in
-    let y = rooms (u .before .before .loop .inv) (u .before .loop-test .taken) (rw (x .n .given .1) at (u .string .ensures)) in
-    search (needs, y)
+mul-lengths c = let r = room (c .before) in search (needs, r)
 
 slice-write-lengths : tie.Need-slice-write-lengths Inv-loop μ-loop
-slice-write-lengths c =
-    let x = c .before in
-    let u = x .before .before in
-    let y = rooms (u .before .before .loop .inv) (u .before .loop-test .taken) (rw (x .n .given .1) at (u .string .ensures)) in
-    search (needs, y)
+slice-write-lengths c = let r = room (c .before) in search (needs, r)
 
 put-bytes-requires : tie.Need-put-bytes-requires Inv-loop μ-loop
-put-bytes-requires c κs =
-    let x = c .before .before in
-    let u = x .before .before in
-    let y = rooms (u .before .before .loop .inv) (u .before .loop-test .taken) (rw (x .n .given .1) at (u .string .ensures)) in
-    (omega (arith, inside (rw (x .n .given .1) at (u .string .ensures))), omega (arith, y .1, u .before .before .loop .inv .kept-bytes))
+put-bytes-requires c κs = let r = room (c .before .before) in (r .there, r .fit)
 
 add-i : tie.Need-add-i Inv-loop μ-loop
-add-i c =
-    let x = c .before .before .before .before .before in
-    let u = x .before .before in
-    let y = rooms (u .before .before .loop .inv) (u .before .loop-test .taken) (rw (x .n .given .1) at (u .string .ensures)) in
-    search (needs, y)
+add-i c = let r = room (c .before .before .before .before .before) in search (needs, r)
 
 add-m : tie.Need-add-m Inv-loop μ-loop
-add-m c =
-    let x = c .before .before .before .before .before in
-    let u = x .before .before in
-    let y = rooms (u .before .before .loop .inv) (u .before .loop-test .taken) (rw (x .n .given .1) at (u .string .ensures)) in
-    record { fits = omega (arith, y .1, u .before .before .loop .inv .bounded) }
+add-m c = record { fits = room (c .before .before .before .before .before) .fits }
 
 loop-less : tie.Need-loop-less Inv-loop μ-loop
 loop-less c =
-    let x = c .before .before .before .before .before in
-    let u = x .before .before in
-    omega (arith, inside (rw (x .n .given .1) at (u .string .ensures)), u .before .loop-test .taken)
+    let r = room (c .before .before .before .before .before) in
+    omega (arith, r .moves, r .there)
 
 loop-again : tie.Need-loop-again Inv-loop μ-loop
 loop-again c =
     let x = c .before .before .before .before .before in
-    let u = x .before .before in
-    names-turn (u .before .before .loop .inv) (u .before .loop-test .taken) (rw (x .n .given .1) at (u .string .ensures)) (c .before .before .put-bytes .ensures)
+    names-turn (x .before .before .before .before .loop .inv) (x .before .before .before .loop-test .taken) (text x) (c .before .before .put-bytes .ensures)
 
 returns-2 : tie.Need-returns-2 Inv-loop μ-loop
 returns-2 c = names-end (c .before .loop .inv) (c .loop-test .left)

@@ -74,8 +74,8 @@ survey-spec =
     loop-holds
     (λ c κs. search needs)
     (λ c. search needs)
-    returns
     (λ c. search needs)
+    returns
     sub-step
     part-step-start
     part-step-end
