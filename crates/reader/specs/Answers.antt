@@ -10,7 +10,7 @@ use Rattle.format.specs.declared.Kind.{Kind}
 use Rattle.format.specs.Bytes.{if_then_else_, sum}
 use Rattle.format.specs.Items.{Verdict, fine, fault, _then_}
 use Rattle.format.specs.Chunks.{chunks}
-use Rattle.format.specs.Mesh.{needs}
+use Rattle.format.specs.Mesh.{Needs, needs}
 use Rattle.format.specs.Bodies.{Part, points, names, polygons, tagging, surface, skipped, facesBody, patchesBody}
 use Rattle.format.specs.Rules.{Before, start, there, count, when_read_, judge, walk, judged, meshOf, skippedOf, detailsOf}
 use Rattle.bodies.specs.Answers.{sizesOf}
@@ -129,6 +129,9 @@ totalsOf kind parts =
       skipped = sum (map skippedOf parts);
       details = sum (map detailsOf parts);
     }
+
+abbrev pub needsIn : Totals → Needs
+needsIn t = record { points = t .points; polygons = t .polygons; vertices = t .vertices; names = t .names; nameBytes = t .«name_bytes» }
 
 abbrev pub surveyedAs : Surveyed → Verdict Totals
 surveyedAs (Surveyed.Counts t) = fine t

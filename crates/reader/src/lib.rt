@@ -3,4 +3,5 @@ pub mod chunk;
 pub mod counts;
 pub mod first;
 pub mod form;
+pub mod room;
 pub mod survey;

@@ -1,0 +1,25 @@
+// Whether the lent tables have room for what a file needs.
+ghost use mathlib.Core.Path.{_≡_};
+ghost use Rattle.format.specs.Answer.{fits};
+ghost use Rattle.reader.specs.Answers.{needsIn};
+use crate::counts::Totals;
+
+// A table of entries of several words is as long as its whole entries. The records need one entry a name.
+pub fn has_room(
+    t: Totals,
+    points: &[u32],
+    polygons: &[u32],
+    vertices: &[u32],
+    names: &[u32],
+    name_bytes: &[u8],
+    records: &[u32],
+) -> bool
+    ensures { λ r. ⌜ r ≡ fits (needsIn t) (record { points = now (points .entry); polygons = now (polygons .entry); vertices = now (vertices .entry); names = now (names .entry); nameBytes = now («name_bytes» .entry); records = now (records .entry) }) ⌝ }
+{
+    (t.points <= points.len() / 3)
+        & (t.polygons <= polygons.len() / 3)
+        & (t.vertices <= vertices.len())
+        & (t.names <= names.len())
+        & (t.name_bytes <= name_bytes.len())
+        & (t.names <= records.len() / 10)
+}
