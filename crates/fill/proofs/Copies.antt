@@ -22,6 +22,7 @@ use Rattle.wire.specs.declared.cursor.Cursor.{Cursor}
 use Rattle.wire.specs.declared.cursor.Text.{Text}
 use Rattle.wire.specs.Answers.{TextAt}
 use Rattle.bodies.proofs.Naming.{inside}
+use Rattle.format.proofs.Verdicts.{same-fine, then-fine, chosen}
 use Rattle.format.proofs.Puts.{joined-append, put-none, put-length, put-snoc, put-append}
 
 -- ---- bytes
@@ -76,21 +77,13 @@ pub record NamesFilling (s lengths₀ : List ℕ) (k : ℕ) (bytes₀ : List ℕ
   pub put-lengths : Put lengths₀ k (map length done) lengths
   pub put-bytes : Put bytes₀ b (joined done) bytes
 
-then-fine : {A B : Type 0} (v : Verdict A) (f : A → Verdict B) {x : B} → (v then f) ≡ fine x → (a : A) × (v ≡ fine a) × (f a ≡ fine x)
-unfolding _then_
-then-fine (fine a) f e = (a, refl, e)
-then-fine (fault why at) f e = absurd (let z : _≡_ {A = ℕ} 0 1 = cc in omega arith)
-
-same-fine : {A : Type 0} {a b : A} → fine a ≡ fine b → a ≡ b
-same-fine e = cc
-
 pub names-begin : {s lengths : List ℕ} {k : ℕ} {bytes : List ℕ} {b : ℕ} → length bytes < 2 ^ 64 → NamesRoom s lengths k bytes b → NamesFilling s lengths k bytes b 8 k b lengths bytes
 unfolding whole namesBody joined _>>=_
 names-begin {s} {lengths} {k} {bytes} {b} bounded r =
     let w = then-fine (namesBody 8 (drop 8 s)) _ (r .sound) in
     let m = then-fine (namesAfter (length (drop 8 s)) [] 8 (drop 8 s)) _ (w .1) in
     let made : record { value = names (m .0 .value); next = m .0 .next; left = m .0 .left } ≡ w .0 = cc (m .2) in
-    let part : names (m .0 .value) ≡ names (r .listed) = ap (λ g. g .value) made ∙ taken (empty (w .0 .left)) (w .2) in
+    let part : names (m .0 .value) ≡ names (r .listed) = ap (λ g. g .value) made ∙ same-fine (chosen (empty (w .0 .left)) (fine (w .0 .value)) WrongLength 0 (w .2) .1) in
     record {
       room = r;
       done = [];
@@ -110,10 +103,6 @@ names-begin {s} {lengths} {k} {bytes} {b} bounded r =
       put-lengths = put-none lengths k;
       put-bytes = put-none bytes b;
     }
-  where
-    taken : {p q : Part} (t : Bool) → (if t then fine p else fault WrongLength 0) ≡ fine q → p ≡ q
-    taken true e = cc
-    taken false e = absurd (let z : _≡_ {A = ℕ} 0 1 = cc in omega arith)
 
 -- the name that stands at a place, and those after it
 pub record NameNext (s : List ℕ) (at n next fuel : ℕ) (earlier more : List Name) (end : ℕ) (left : List ℕ) : Type 0 where

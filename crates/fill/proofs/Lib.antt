@@ -1,2 +1,5 @@
 mod Words
 mod Copies
+mod Tags
+mod Missing
+mod Behind

@@ -17,6 +17,7 @@ use Rattle.format.specs.Chunks.{ofLength}
 use Rattle.format.specs.Mesh.{Point, pointWords}
 use Rattle.format.specs.Bodies.{Part, points, point, wholePoints, pointsBody}
 use Rattle.format.specs.Said.{Put}
+use Rattle.format.proofs.Verdicts.{then-fine, chosen}
 use Rattle.format.proofs.Puts.{put-none, put-snoc}
 use Rattle.fill.specs.Puts.{PointsPut}
 
@@ -48,15 +49,6 @@ words-more (suc n) k b =
     rw s (ap (λ l. number (take 4 b) ∷ l) (rw (← d) (words-more n k (drop 4 b))))
 
 -- ---- one float, one point
-
-then-fine : {A B : Type 0} (v : Verdict A) (f : A → Verdict B) {x : B} → (v then f) ≡ fine x → (a : A) × (v ≡ fine a) × (f a ≡ fine x)
-unfolding _then_
-then-fine (fine a) f e = (a, refl, e)
-then-fine (fault why at) f e = absurd (let z : _≡_ {A = ℕ} 0 1 = cc in omega arith)
-
-chosen : {A : Type 0} (b : Bool) (v : Verdict A) (why : Fault) (at : ℕ) {x : A} → (if b then v else fault why at) ≡ fine x → (b ≡ true) × (v ≡ fine x)
-chosen true v why at e = (refl, e)
-chosen false v why at e = absurd (let z : _≡_ {A = ℕ} 0 1 = cc in omega arith)
 
 -- n words at the front of some bytes, and what is left behind them
 record Front {A : Type 0} (n : ℕ) (words-of : A → List ℕ) (b : List ℕ) (g : Got A) : Type 0 where

@@ -2,3 +2,5 @@
 // body's end, and a table with room; what it does not write it leaves as it was.
 pub mod names;
 pub mod points;
+pub mod records;
+pub mod tagging;

@@ -4,4 +4,6 @@ pub mod Counting
 pub mod Sounding
 pub mod Places
 pub mod Strings
+pub mod Verdicts
 pub mod Puts
+pub mod Tiling

@@ -9,24 +9,7 @@ use lib.ListN.{length, length-append}
 use Rattle.format.specs.Bytes.{if_then_else_, joined, all}
 use Rattle.format.specs.declared.Fault.{Fault}
 use Rattle.format.specs.Items.{Verdict, fine, fault, Got, Reader, give, _then_, _>>=_, _or_unless_, whole, times, upTo, many}
-use Rattle.laws.proofs.Facts.{impossible, all-first, all-rest}
-
--- ---- what was fine
-
--- a step that was fine, and the steps after it
-pub then-fine : {A B : Type 0} (v : Verdict A) (f : A → Verdict B) {x : B} → (v then f) ≡ fine x → (a : A) × (v ≡ fine a) × (f a ≡ fine x)
-unfolding _then_
-then-fine (fine a) f e = (a, refl, e)
-then-fine (fault why at) f e = impossible (cc)
-
--- a test without which there is a fault, and one with which there is
-pub chosen : {A : Type 0} (b : Bool) (v : Verdict A) (why : Fault) (at : ℕ) {x : A} → (if b then v else fault why at) ≡ fine x → (b ≡ true) × (v ≡ fine x)
-chosen true v why at e = (refl, e)
-chosen false v why at e = impossible (cc)
-
-pub passed : {A : Type 0} (b : Bool) (v : Verdict A) (why : Fault) (at : ℕ) {x : A} → (if b then fault why at else v) ≡ fine x → (b ≡ false) × (v ≡ fine x)
-passed true v why at e = impossible (cc)
-passed false v why at e = (refl, e)
+use Rattle.laws.proofs.Facts.{all-first, all-rest}
 
 -- ---- what a reader reads back
 

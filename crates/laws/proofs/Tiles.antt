@@ -3,10 +3,11 @@ use Prim.Native.Nat.{ℕ, zero, suc, _≤_, _<_}
 use mathlib.Core.Path.{_≡_, refl, ap, subst, _∙_}
 use mathlib.Core.List.{List, [], _∷_, _++_, append-assoc}
 use native.Mathlib.Omega.{arith}
-use lib.ListN.{length, length-append}
+use lib.ListN.{length}
 use Rattle.format.specs.Bytes.{joined}
 use Rattle.format.specs.Items.{Verdict, fine, fault, Got}
 use Rattle.format.specs.Chunks.{Chunk, chunkOf, Chunks, finished, chunk, link, split, chunks}
+use Rattle.format.proofs.Tiling as tiling
 use Rattle.laws.proofs.Facts.{impossible}
 use Rattle.laws.proofs.Reading.{Reads, Row, none, more}
 use Rattle.laws.proofs.Chunks.{front}
@@ -16,38 +17,15 @@ unfoldable pub inFront : List Chunk → Chunks → Chunks
 inFront [] rest = rest
 inFront (c ∷ cs) rest = chunk (c .tag) (c .body) (inFront cs rest)
 
-left-shorter : (s : List ℕ) (c : Got Chunk) → chunkOf 4 0 s ≡ fine c → length (c .left) < length s
-left-shorter s c e = let f = front 4 0 s c e in omega (arith, ap length (f .parts), length-append (f .bytes-of) (c .left), f .some)
-
-link-same : (f g : List ℕ → Chunks) (s : List ℕ) → ((t : List ℕ) → length t < length s → f t ≡ g t) → (v : Verdict (Got Chunk)) → chunkOf 4 0 s ≡ v → link f v ≡ link g v
-unfolding link
-link-same f g s same (fine c) e = ap (chunk (c .value .tag) (c .value .body)) (same (c .left) (left-shorter s c e))
-link-same f g s same (fault why at) e = refl
-
 -- ---- what chunks stand in some bytes
 
--- any bound that is large enough finds the same chunks
-split-same : (n m : ℕ) (s : List ℕ) → length s ≤ n → length s ≤ m → split n s ≡ split m s
-unfolding split
-split-same zero zero s h k = refl
-split-same zero (suc m) [] h k = refl
-split-same zero (suc m) (b ∷ s) h k = absurd (omega arith)
-split-same (suc n) zero [] h k = refl
-split-same (suc n) zero (b ∷ s) h k = absurd (omega arith)
-split-same (suc n) (suc m) [] h k = refl
-split-same (suc n) (suc m) (b ∷ s) h k =
-    link-same (split n) (split m) (b ∷ s) (λ t less. split-same n m t (omega arith) (omega arith)) (chunkOf 4 0 (b ∷ s)) refl
-
-pub next-chunk : {w : List ℕ} {c : Chunk} → Reads (chunkOf 4) w c → 0 < length w → (rest : List ℕ) → chunks (w ++ rest) ≡ chunk (c .tag) (c .body) (chunks rest)
-unfolding chunks split link
-next-chunk {w = []} h some rest = absurd (omega arith)
-next-chunk {w = b ∷ w} h some rest =
-    rw (h .here 0 rest, split-same (length (w ++ rest)) (length rest) rest (omega (arith, length-append w rest)) (omega arith))
+pub next-chunk : {w : List ℕ} {c : Chunk} → Reads (chunkOf 4) w c → (rest : List ℕ) → chunks (w ++ rest) ≡ chunk (c .tag) (c .body) (chunks rest)
+next-chunk {w = w} h rest = tiling.next-chunk 0 (w ++ rest) _ (h .here 0 rest)
 
 pub chunks-row : {ws : List (List ℕ)} {cs : List Chunk} → Row (chunkOf 4) ws cs → (rest : List ℕ) → chunks (joined ws ++ rest) ≡ inFront cs (chunks rest)
 unfolding inFront joined
 chunks-row none rest = refl
-chunks-row (more {w = w} {ws = ws} h some row) rest = rw (append-assoc w (joined ws) rest, next-chunk h some (joined ws ++ rest), chunks-row row rest)
+chunks-row (more {w = w} {ws = ws} h some row) rest = rw (append-assoc w (joined ws) rest, next-chunk h (joined ws ++ rest), chunks-row row rest)
 
 -- ---- bytes all of which are chunks
 
@@ -71,7 +49,7 @@ tiled-link go s (c ∷ cs) later (fine g) read e =
     let tag : g .value .tag ≡ c .tag = cc in
     let body : g .value .body ≡ c .body = cc in
     let value : g .value ≡ c = λ i. record { tag = tag i; body = body i } in
-    let t = later (g .left) cs (left-shorter s g read) (cc) in
+    let t = later (g .left) cs (tiling.framed 0 s g read .less) (cc) in
     record { pieces = f .bytes-of ∷ t .pieces; parts = f .parts ∙ ap (λ (l : List ℕ). f .bytes-of ++ l) (t .parts); row = more (subst (λ (x : Chunk). Reads (chunkOf 4) (f .bytes-of) x) value (f .reads)) (f .some) (t .row) }
 tiled-link go s [] later (fault why at) read e = impossible (cc)
 tiled-link go s (c ∷ cs) later (fault why at) read e = impossible (cc)

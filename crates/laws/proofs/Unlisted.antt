@@ -19,7 +19,7 @@ use Rattle.format.specs.Bodies.{Part, points, names, polygons, tagging, surface
 use Rattle.format.specs.Rules.{unlistedTag, Before, start, after, judge, located, walk, pointsOf, namesOf, surfacesOf, skippedOf, detailsOf, polygonsIn, meshOf, gives, form, outcome, rules}
 use Rattle.format.specs.Canonical.{formBytes}
 use Rattle.laws.proofs.Facts.{impossible, all-at}
-use Rattle.laws.proofs.Reading.{then-fine}
+use Rattle.format.proofs.Verdicts.{then-fine}
 use Rattle.laws.proofs.Chunks.{chunkIn, reads-whole}
 use Rattle.laws.proofs.Tiles.{inFront, next-chunk, chunks-row, Tiled, tiled}
 use Rattle.laws.proofs.Walk.{walk-on}
@@ -144,7 +144,7 @@ unfolding sizeOf
 inserted kind a c x cs m k d whole u fits e =
     let t : Tiled a cs = tiled a cs whole in
     let behind : (y : List ℕ) → chunks (a ++ y) ≡ inFront cs (chunks y) = λ y. rw (t .parts) (chunks-row (t .row) y) in
-    let one : chunks (c ++ x) ≡ chunk (number (take 4 c)) (chunkIn 4 c .body) (chunks x) = next-chunk (reads-whole 4 c (u .formed) (u .exact)) (omega (arith, u .exact)) x in
+    let one : chunks (c ++ x) ≡ chunk (number (take 4 c)) (chunkIn 4 c .body) (chunks x) = next-chunk (reads-whole 4 c (u .formed) (u .exact)) x in
     let short : 12 + length (a ++ x) ≤ fileLimit = omega (arith, length-append a x, length-append a (c ++ x), length-append c x) in
     let given : outcomeOf kind (inFront cs (chunks x)) ≡ gives m k d = rw (← behind x, ← rules-form kind (a ++ x) short) e in
     rules-form kind (a ++ (c ++ x)) fits ∙ rw (behind (c ++ x), one) (inserted-chunk kind cs (number (take 4 c)) (chunkIn 4 c .body) (chunks x) m k d (u .tag) given)

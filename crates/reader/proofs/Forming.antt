@@ -18,7 +18,7 @@ use Rattle.reader.specs.declared.counts.Totals.{Totals}
 use Rattle.reader.specs.declared.survey.Surveyed.{Surveyed}
 use Rattle.reader.specs.declared.first.First.{First}
 use Rattle.reader.specs.Answers.{totalsOf, SurveyOf, FirstOf}
-use Rattle.reader.proofs.Stepping.{known, stopped}
+use Rattle.format.proofs.Verdicts.{known, stopped}
 
 -- ---- the header, test by test
 
@@ -73,7 +73,7 @@ module _ {s : List ℕ} where
   module _ {kind : Kind} (headed : fine kind ≡ form s) where
     pub refused : {f : Refusal} → SurveyOf kind s (Surveyed.Refused f) → FirstOf s (First.Refused f)
     unfolding judged _then_
-    refused {f} w = record { is = rw (← headed, stopped (walk kind start 12 (chunks (drop 12 s))) (totalsOf kind) {r = f} (w .is)) }
+    refused {f} w = record { is = rw (← headed, stopped (walk kind start 12 (chunks (drop 12 s))) (totalsOf kind) (w .is)) }
 
     pub counted : {t : Totals} → SurveyOf kind s (Surveyed.Counts t) → FirstOf s (First.Counts kind t)
     unfolding judged _then_

@@ -1,7 +1,6 @@
 pub mod Judging
 pub mod Weighing
 pub mod Stepping
-pub mod Tiling
 pub mod Tallying
 pub mod Surveying
 pub mod Forming

@@ -7,6 +7,7 @@ use lib.ListN.{length, drop, length-drop}
 use Rattle.format.specs.declared.Kind.{Kind}
 use Rattle.format.specs.Items.{Verdict, fine, fault, _then_}
 use Rattle.format.specs.Rules.{judge}
+use Rattle.format.proofs.Verdicts.{Known, known, stopped}
 use Rattle.wire.specs.declared.Refusal.{Refusal}
 use Rattle.reader.specs.declared.counts.Counted.{Counted}
 use Rattle.reader.specs.declared.counts.Totals.{Totals}
@@ -15,22 +16,6 @@ use Rattle.reader.specs.declared.chunk.Judgement.{Judgement}
 use Rattle.reader.specs.declared.survey.Stepped.{Stepped}
 use Rattle.reader.specs.Answers.{countedOf, beforeOf, CountsOf, totalsWith, seenWith, allOf, weight, StepAt}
 use Rattle.reader.proofs.Weighing.{light-judge}
-
--- what was judged, of which f is known
-pub record Known {A B : Type 0} (v : Verdict A) (f : A → B) (y : B) : Type 0 where
-  pub value : A
-  pub is : v ≡ fine value
-  pub shows : f value ≡ y
-
-pub known : {A B : Type 0} (v : Verdict A) (f : A → B) {y : B} → fine y ≡ (v then λ x. fine (f x)) → Known v f y
-unfolding _then_
-known (fine x) f e = record { value = x; is = refl; shows = cc }
-known (fault why p) f e = absurd (let z : _≡_ {A = ℕ} 0 1 = cc in omega arith)
-
-pub stopped : {A B : Type 0} (v : Verdict A) (f : A → B) {r : Refusal} → fault (r .why) (r .at) ≡ (v then λ x. fine (f x)) → v ≡ fault (r .why) (r .at)
-unfolding _then_
-stopped (fine x) f e = absurd (let z : _≡_ {A = ℕ} 0 1 = cc in omega arith)
-stopped (fault why p) f e = cc
 
 module _ (kind : Kind) (tag : ℕ) (seen : Seen) {s : List ℕ} where
   pub step-stop : {f : Refusal} → CountsOf (judge kind (beforeOf (seen .lengths)) tag) s (Judgement.Stop f) → StepAt kind tag seen s (Stepped.Stop f)

@@ -14,6 +14,8 @@ use Rattle.format.specs.Chunks.{sizeOf, Chunks, chunk, chunks}
 use Rattle.format.specs.Bodies.{Part}
 use Rattle.format.specs.Rules.{Before, start, after, judge, located, walk}
 use Rattle.format.proofs.Saying.{exactly}
+use Rattle.format.proofs.Verdicts.{known, stopped, then-same, then-then}
+use Rattle.format.proofs.Tiling.{framed, none, next-chunk, no-chunk}
 use Rattle.wire.specs.declared.Refusal.{Refusal}
 use Rattle.wire.specs.declared.cursor.Cursor.{Cursor}
 use Rattle.wire.specs.declared.header.Header.{Header}
@@ -24,21 +26,7 @@ use Rattle.reader.specs.declared.counts.Seen.{Seen}
 use Rattle.reader.specs.declared.survey.Stepped.{Stepped}
 use Rattle.reader.specs.declared.survey.Surveyed.{Surveyed}
 use Rattle.reader.specs.Answers.{countedOf, beforeOf, seenWith, nothingSeen, allOf, StepAt, totalsOf, SurveyOf}
-use Rattle.reader.proofs.Stepping.{known, stopped}
-use Rattle.reader.proofs.Tiling.{framed, none, next-chunk, no-chunk}
 use Rattle.reader.proofs.Tallying.{adding, same-before, totals-are}
-
--- ---- verdicts
-
-then-same : {A B : Type 0} (v : Verdict A) (f g : A → B) → ((x : A) → f x ≡ g x) → (v then λ x. fine (f x)) ≡ (v then λ x. fine (g x))
-unfolding _then_
-then-same (fine x) f g e = rw (e x)
-then-same (fault why p) f g e = refl
-
-then-then : {A B C : Type 0} (v : Verdict A) (f : A → B) (g : B → C) → ((v then λ x. fine (f x)) then λ y. fine (g y)) ≡ (v then λ x. fine (g (f x)))
-unfolding _then_
-then-then (fine x) f g = refl
-then-then (fault why p) f g = refl
 
 -- ---- the walk
 

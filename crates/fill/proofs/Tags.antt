@@ -1,0 +1,181 @@
+-- The tags of a body, put over the surface numbers of polygons that stand in a table. Assumes nothing.
+use mathlib.Core.Path.{_≡_, refl, sym, ap, _∙_}
+use mathlib.Core.Bool.{Bool, true, false}
+use mathlib.Core.List.{List, [], _∷_, _++_, foldl-append, append-assoc, append-nil}
+use Prim.Native.Nat.{ℕ, zero, suc, _+_, _*_, _≤_, _<_}
+use native.Mathlib.Omega.{arith}
+use lib.ListN.{length, take, drop, set, length-append, length-take, length-set}
+use lib.Seq.{set-append-left}
+use lib.Dec.{ltb}
+use borrow.Author.Tests.{ltb-true, ltb-false}
+use Rattle.format.specs.declared.Fault.{Fault}
+use Rattle.format.specs.declared.Fault.the-variants.{ItemCut, PolygonNumber, SurfaceNumber}
+use Rattle.format.specs.Bytes.{_is_, joined, number}
+use Rattle.format.specs.Items.{fine, fault, _then_, Reader, _>>=_, _or_unless_, whole, uint, u2, u4, vx}
+use Rattle.format.specs.Chunks.{unjudged}
+use Rattle.format.specs.Mesh.{Polygon}
+use Rattle.format.specs.Bodies.{Part, tagging, pair, taggingBody}
+use Rattle.format.specs.Rules.{retag, tagged}
+use Rattle.format.specs.Said.{Put, Says, ReadsAt, JudgedAt, Sound, keep, itself, taking, got}
+use Rattle.format.proofs.Saying.{on, given, exact, exactly, was-good, used-up}
+use Rattle.format.proofs.Places.{uint-cut, uint-whole}
+use Rattle.format.proofs.Entries.{Manying, many-begin, many-turn, many-end}
+use Rattle.format.proofs.Sounding.{sound-then, sound-not, sound-first, sound-next, sound-good, sound-whole, many-sound}
+use Rattle.bodies.specs.Answers.{pairsOf}
+use Rattle.fill.specs.Taggings.{wordsOf, TagsRoom, TagsPut}
+
+-- ---- a store amongst words that were put
+
+set-after : (xs ys : List ℕ) (n v : ℕ) → set (xs ++ ys) (length xs + n) v ≡ xs ++ set ys n v
+set-after [] ys n v = let e : 0 + n ≡ n = omega arith in rw e
+set-after (x ∷ xs) ys n v = let e : suc (length xs) + n ≡ suc (length xs + n) = omega arith in rw e (ap (λ l. x ∷ l) (set-after xs ys n v))
+
+put-over : {t t′ ws : List ℕ} {m : ℕ} → Put t m ws t′ → (k v : ℕ) → k < length ws → m + length ws ≤ length t → Put t m (set ws k v) (set t′ (m + k) v)
+put-over {t} {t′} {ws} {m} p k v inside room =
+    let front : length (take m t) ≡ m = simp length-take (omega arith) in
+    let near : m + k < length (take m t ++ ws) = simp (length-append, length-take) (omega arith) in
+    let over : set (take m t ++ ws) (m + k) v ≡ take m t ++ set ws k v = rw front at (set-after (take m t) ws k v) in
+    record { put = rw (p .put, length-set ws k v, set-append-left (take m t ++ ws) (drop (m + length ws) t) (m + k) v near, over) }
+
+-- ---- polygons
+
+pub words-size : (qs : List Polygon) → length (wordsOf qs) ≡ length qs * 3
+unfolding joined
+words-size [] = refl
+words-size (q ∷ qs) = omega (arith, words-size qs)
+
+retag-length : (p n : ℕ) (qs : List Polygon) → length (retag p n qs) ≡ length qs
+unfolding retag
+retag-length p n [] = refl
+retag-length zero n (q ∷ qs) = refl
+retag-length (suc p) n (q ∷ qs) = ap suc (retag-length p n qs)
+
+pub tagged-length : (qs : List Polygon) (ts : List (ℕ × ℕ)) → length (tagged qs ts) ≡ length qs
+tagged-length qs [] = refl
+tagged-length qs (t ∷ ts) = tagged-length (retag (t .0) (t .1) qs) ts ∙ retag-length (t .0) (t .1) qs
+
+-- the surface number is the third of a polygon's words
+retag-words : (p n : ℕ) (qs : List Polygon) → p < length qs → set (wordsOf qs) (p * 3 + 2) n ≡ wordsOf (retag p n qs)
+unfolding joined retag
+retag-words p n [] h = absurd (omega arith)
+retag-words zero n (q ∷ qs) h = refl
+retag-words (suc p) n (q ∷ qs) h =
+    let e : suc p * 3 + 2 ≡ suc (suc (suc (p * 3 + 2))) = omega arith in
+    rw e (ap (λ l. q .kind ∷ length (q .vertices) ∷ q .surface ∷ l) (retag-words p n qs (omega arith)))
+
+put-tag : {t t′ : List ℕ} {i : ℕ} (qs : List Polygon) (ts : List (ℕ × ℕ)) (p n : ℕ) → Put t i (wordsOf (tagged qs ts)) t′ → p < length qs → i + length qs * 3 ≤ length t
+    → Put t i (wordsOf (tagged qs (ts ++ ((p, n) ∷ [])))) (set t′ (i + (p * 3 + 2)) n)
+put-tag qs ts p n w h room =
+    let now = tagged qs ts in
+    let l : length now ≡ length qs = tagged-length qs ts in
+    let z : length (wordsOf now) ≡ length now * 3 = words-size now in
+    let e : tagged qs (ts ++ ((p, n) ∷ [])) ≡ retag p n now = foldl-append (λ now t. retag (t .0) (t .1) now) qs ts ((p, n) ∷ []) in
+    rw (e, ← retag-words p n now (omega (arith, l))) (put-over w (p * 3 + 2) n (omega (arith, l, z)) (omega (arith, l, z)))
+
+-- ---- what is fine
+
+sound-item : {A : Type 0} (r : Reader A) (why : Fault) (ok : A → Bool) (at : ℕ) (t : List ℕ) → Sound ((r or why unless ok) at t) → Sound (r at t)
+unfolding _or_unless_
+sound-item r why ok at t w = sound-then (r at t) _ w .0
+
+sound-inside : (n : ℕ) (s : List ℕ) (at : ℕ) → 0 < n → Sound (uint n at (drop at s)) → at + n ≤ length s
+sound-inside n s at some w = by (ltb (length s) (at + n)) refl
+  where
+    by : (t : Bool) → ltb (length s) (at + n) ≡ t → at + n ≤ length s
+    by true e = let h : length s < at + n = ltb-true (length s) (at + n) e in absurd (sound-not w (exactly (uint-cut n (omega arith) .says)))
+    by false e = ltb-false (length s) (at + n) e
+
+-- a body is judged to hold one thing only
+held : {header at : ℕ} {r : Reader Part} {s : List ℕ} {ts us : List (ℕ × ℕ)} → JudgedAt header at r itself s (fine (tagging ts)) → whole header r at (drop at s) ≡ fine (tagging us) → ts ≡ us
+unfolding _then_
+held j e = let same = rw e at (j .is) in cc
+
+-- ---- the pairs of a body
+
+-- the pairs `done` are put, and those that follow are read from here on
+pub record Retagging (s : List ℕ) (from polygons names : ℕ) (table₀ : List ℕ) (i at : ℕ) (table : List ℕ) : Type 0 where
+  pub room : TagsRoom (whole 0 (pairsOf polygons names) from (drop from s)) polygons table₀ i
+  pub done : List (ℕ × ℕ)
+  pub rest : Manying (keep itself (pairsOf polygons names from (drop from s))) (pair polygons names) s at (λ ts. tagging (done ++ ts))
+  pub kept : length table ≡ length table₀
+  pub put : (qs : List Polygon) → length qs ≡ polygons → Put table₀ i (wordsOf qs) table₀ → Put table₀ i (wordsOf (tagged qs done)) table
+
+pub tags-begin : {s : List ℕ} {from polygons names : ℕ} {table : List ℕ} {i : ℕ} → TagsRoom (whole 0 (pairsOf polygons names) from (drop from s)) polygons table i
+    → Retagging s from polygons names table i from table
+tags-begin r = record { room = r; done = []; rest = many-begin tagging itself (λ ts. tagging ts) (λ ts. refl); kept = refl; put = λ qs l w. w }
+
+module _ {s : List ℕ} {from polygons names : ℕ} {table₀ : List ℕ} {i at : ℕ} {table : List ℕ} (f : Retagging s from polygons names table₀ i at table) where
+  module _ (some : at < length s) where
+    pair-sound : Sound (pair polygons names at (drop at s))
+    pair-sound =
+        let u = sound-whole (pairsOf polygons names) 0 from (drop from s) (record { value = tagging (f .room .listed); is = f .room .sound }) in
+        let same : Says (pairsOf polygons names) itself s from (pairsOf polygons names from (drop from s)) = exact refl in
+        let e = many-sound (f .rest) some (record { value = u .got; is = sym (same .is) ∙ u .is }) in
+        record { value = e .first; is = e .is }
+
+    polygon-sound : Sound ((vx or PolygonNumber unless (λ p. ltb p polygons)) at (drop at s))
+    unfolding pair
+    polygon-sound = sound-first _ _ at (drop at s) pair-sound
+
+    pub never-cut : ReadsAt vx (taking 2) s at (fault ItemCut at) → ⊥
+    never-cut w = sound-not (sound-item vx PolygonNumber (λ p. ltb p polygons) at (drop at s) polygon-sound) (exactly (w .says))
+
+    module _ {p next : ℕ} (w : ReadsAt vx (taking 2) s at (got s p next)) where
+      polygon-says : Says (vx or PolygonNumber unless (λ p. ltb p polygons)) itself s at (got s p next)
+      polygon-says = sound-good PolygonNumber (λ p. ltb p polygons) (w .says) polygon-sound
+
+      known : p < polygons
+      known = ltb-true p polygons (was-good vx PolygonNumber (λ p. ltb p polygons) polygon-says)
+
+      -- the polygon's third word stands in the table
+      pub stored : i + (p * 3 + 2) < length table
+      stored = omega (arith, known, f .kept, f .room .fits)
+
+      tag-sound : Sound ((u2 or SurfaceNumber unless (λ t. ltb t names)) next (drop next s))
+      unfolding pair
+      tag-sound = sound-first _ _ next (drop next s) (sound-next _ _ polygon-says pair-sound)
+
+      pub tag-inside : next + 2 ≤ length s
+      tag-inside = sound-inside 2 s next (omega arith) (sound-item u2 SurfaceNumber (λ t. ltb t names) next (drop next s) tag-sound)
+
+      module _ {t : ℕ} (read : t ≡ number (take 2 (drop next s))) where
+        pair-says : Says (pair polygons names) itself s at (got s (p, suc t) (next + 2))
+        unfolding pair
+        pair-says = on _ polygon-says (on _ (sound-good SurfaceNumber (λ t. ltb t names) (uint-whole 2 tag-inside read .says) tag-sound) (given refl))
+
+        pub tags-turn : Retagging s from polygons names table₀ i (next + 2) (set table (i + (p * 3 + 2)) (t + 1))
+        tags-turn =
+            let e : t + 1 ≡ suc t = omega arith in
+            rw e
+            (record {
+              room = f .room;
+              done = f .done ++ ((p, suc t) ∷ []);
+              rest = many-turn (f .rest) some pair-says (omega (arith, w .moves)) (λ x xs same. rw same (ap tagging (sym (append-assoc (f .done) ((p, suc t) ∷ []) xs))));
+              kept = length-set table (i + (p * 3 + 2)) (suc t) ∙ f .kept;
+              put = λ qs l h. put-tag qs (f .done) p (suc t) (f .put qs l h) (omega (arith, l, known)) (omega (arith, l, f .room .fits));
+            })
+
+  pub tags-end : length s ≤ at → TagsPut (whole 0 (pairsOf polygons names) from (drop from s)) polygons table₀ i table
+  tags-end end =
+      let j : JudgedAt 0 from (pairsOf polygons names) itself s (fine (tagging (f .done ++ []))) = used-up (record { is = many-end (f .rest) end }) end in
+      record { put = λ qs ts l e h. rw (← held j e, append-nil (f .done)) (f .put qs l h) }
+
+-- ---- the type of a body
+
+module _ (polygons names : ℕ) {s : List ℕ} where
+  pub type-never-cut : {table : List ℕ} {i : ℕ} → TagsRoom (whole 0 (taggingBody polygons names) 8 (drop 8 s)) polygons table i → ReadsAt u4 (taking 4) s 8 (fault ItemCut 8) → ⊥
+  unfolding taggingBody
+  type-never-cut r w =
+      let u = sound-whole (taggingBody polygons names) 0 8 (drop 8 s) (record { value = tagging (r .listed); is = r .sound }) in
+      sound-not (sound-first u4 _ 8 (drop 8 s) (record { value = u .got; is = u .is })) (exactly (w .says))
+
+  module _ {t next : ℕ} (w : ReadsAt u4 (taking 4) s 8 (got s t next)) where
+    pub of-surfaces : t is "SURF" ≡ true → whole 0 (taggingBody polygons names) 8 (drop 8 s) ≡ whole 0 (pairsOf polygons names) next (drop next s)
+    unfolding taggingBody whole number _>>=_ _then_
+    of-surfaces e = rw (exactly (w .says), e)
+
+    pub of-others : {table : List ℕ} {i : ℕ} → t is "SURF" ≡ false → TagsPut (whole 0 (taggingBody polygons names) 8 (drop 8 s)) polygons table i table
+    unfolding taggingBody unjudged whole number _>>=_ _then_
+    of-others e =
+        let empty : whole 0 (taggingBody polygons names) 8 (drop 8 s) ≡ fine (tagging []) = rw (exactly (w .says), e) in
+        record { put = λ qs ts l f h. let none : ts ≡ [] = cc (empty, f) in rw none h }

@@ -1,0 +1,54 @@
+-- Verdicts: what a verdict that is fine, or a fault, was made of. Assumes nothing.
+use mathlib.Core.Path.{_≡_, refl}
+use mathlib.Core.Bool.{Bool, true, false}
+use Prim.Native.Nat.{ℕ}
+use native.Mathlib.Omega.{arith}
+use Rattle.format.specs.declared.Fault.{Fault}
+use Rattle.format.specs.Bytes.{if_then_else_}
+use Rattle.format.specs.Items.{Verdict, fine, fault, _then_}
+
+pub same-fine : {A : Type 0} {a b : A} → fine a ≡ fine b → a ≡ b
+same-fine e = cc
+
+-- a step that was fine, and the steps after it
+pub then-fine : {A B : Type 0} (v : Verdict A) (f : A → Verdict B) {x : B} → (v then f) ≡ fine x → (a : A) × (v ≡ fine a) × (f a ≡ fine x)
+unfolding _then_
+then-fine (fine a) f e = (a, refl, e)
+then-fine (fault why at) f e = absurd (let z : _≡_ {A = ℕ} 0 1 = cc in omega arith)
+
+-- a test without which there is a fault, and one with which there is
+pub chosen : {A : Type 0} (b : Bool) (v : Verdict A) (why : Fault) (at : ℕ) {x : A} → (if b then v else fault why at) ≡ fine x → (b ≡ true) × (v ≡ fine x)
+chosen true v why at e = (refl, e)
+chosen false v why at e = absurd (let z : _≡_ {A = ℕ} 0 1 = cc in omega arith)
+
+pub passed : {A : Type 0} (b : Bool) (v : Verdict A) (why : Fault) (at : ℕ) {x : A} → (if b then fault why at else v) ≡ fine x → (b ≡ false) × (v ≡ fine x)
+passed true v why at e = absurd (let z : _≡_ {A = ℕ} 0 1 = cc in omega arith)
+passed false v why at e = (refl, e)
+
+-- ---- of which a part is kept
+
+-- what was judged, of which f is known
+pub record Known {A B : Type 0} (v : Verdict A) (f : A → B) (y : B) : Type 0 where
+  pub value : A
+  pub is : v ≡ fine value
+  pub shows : f value ≡ y
+
+pub known : {A B : Type 0} (v : Verdict A) (f : A → B) {y : B} → fine y ≡ (v then λ x. fine (f x)) → Known v f y
+unfolding _then_
+known (fine x) f e = record { value = x; is = refl; shows = cc }
+known (fault why p) f e = absurd (let z : _≡_ {A = ℕ} 0 1 = cc in omega arith)
+
+pub stopped : {A B : Type 0} (v : Verdict A) (f : A → B) {why : Fault} {at : ℕ} → fault why at ≡ (v then λ x. fine (f x)) → v ≡ fault why at
+unfolding _then_
+stopped (fine x) f e = absurd (let z : _≡_ {A = ℕ} 0 1 = cc in omega arith)
+stopped (fault why p) f e = cc
+
+pub then-same : {A B : Type 0} (v : Verdict A) (f g : A → B) → ((x : A) → f x ≡ g x) → (v then λ x. fine (f x)) ≡ (v then λ x. fine (g x))
+unfolding _then_
+then-same (fine x) f g e = rw (e x)
+then-same (fault why p) f g e = refl
+
+pub then-then : {A B C : Type 0} (v : Verdict A) (f : A → B) (g : B → C) → ((v then λ x. fine (f x)) then λ y. fine (g y)) ≡ (v then λ x. fine (g (f x)))
+unfolding _then_
+then-then (fine x) f g = refl
+then-then (fault why p) f g = refl

@@ -1,0 +1,9 @@
+pub mod Passing
+pub mod Entries
+pub mod Sameness
+pub mod Summing
+pub mod Walking
+pub mod Naming
+pub mod Recorded
+pub mod Decided
+pub mod Known

@@ -1,0 +1,9 @@
+pub mod Adding
+pub mod Sized
+pub mod Filling
+pub mod Paired
+pub mod Running
+pub mod Chunked
+pub mod Entered
+pub mod Filed
+pub mod Answered
