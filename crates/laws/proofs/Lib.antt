@@ -14,3 +14,4 @@ pub mod Tables
 pub mod WrittenBack
 pub mod Room
 pub mod Unlisted
+pub mod Placing
