@@ -26,7 +26,7 @@ fn polygon_type(t: u32) -> bool
 }
 
 // The kind of the polygons of a type: 1 for faces and 2 for patches.
-fn polygon_kind(t: u32) -> u32
+pub fn polygon_kind(t: u32) -> u32
     ensures { λ r. ⌜ r ≡ polygonKind t ⌝ }
 {
     if t == FACE { 1 } else { 2 }

@@ -3,3 +3,7 @@ mod Copies
 mod Tags
 mod Missing
 mod Behind
+mod Vertices
+mod OnePolygon
+mod Outlines
+mod Bodies

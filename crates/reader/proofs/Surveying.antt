@@ -3,8 +3,7 @@ use mathlib.Core.Path.{_≡_, refl, sym, ap, _∙_}
 use mathlib.Core.List.{List, _∷_}
 use Prim.Native.Nat.{ℕ, _+_, _-_, _≤_, _<_}
 use native.Mathlib.Omega.{arith}
-use lib.ListN.{length, take, drop, length-take, length-drop, drop-of-length-le}
-use lib.Seq.{drop-drop}
+use lib.ListN.{length, take, drop, length-drop, drop-of-length-le}
 use Rattle.format.specs.declared.Kind.{Kind}
 use Rattle.format.specs.declared.Fault.{Fault}
 use Rattle.format.specs.declared.Fault.the-variants.{BadHeader}
@@ -15,17 +14,17 @@ use Rattle.format.specs.Bodies.{Part}
 use Rattle.format.specs.Rules.{Before, start, after, judge, located, walk}
 use Rattle.format.proofs.Saying.{exactly}
 use Rattle.format.proofs.Verdicts.{known, stopped, then-same, then-then}
-use Rattle.format.proofs.Tiling.{framed, none, next-chunk, no-chunk}
+use Rattle.format.proofs.Tiling.{none, no-chunk}
 use Rattle.wire.specs.declared.Refusal.{Refusal}
 use Rattle.wire.specs.declared.cursor.Cursor.{Cursor}
 use Rattle.wire.specs.declared.header.Header.{Header}
 use Rattle.wire.specs.Answers.{HeaderAt}
-use Rattle.wire.proofs.Headers.{part-is}
 use Rattle.reader.specs.declared.counts.Totals.{Totals}
 use Rattle.reader.specs.declared.counts.Seen.{Seen}
 use Rattle.reader.specs.declared.survey.Stepped.{Stepped}
 use Rattle.reader.specs.declared.survey.Surveyed.{Surveyed}
 use Rattle.reader.specs.Answers.{countedOf, beforeOf, seenWith, nothingSeen, allOf, StepAt, totalsOf, SurveyOf}
+use Rattle.reader.proofs.Standing.{body, front, size, long}
 use Rattle.reader.proofs.Tallying.{adding, same-before, totals-are}
 
 -- ---- the walk
@@ -68,30 +67,16 @@ module _ {kind : Kind} {file : List ℕ} {at : ℕ} {seen : Seen} (w : Surveying
         record { is = sym (w .is ∙ rw (no-chunk at (drop at file) long (exactly (h .reads .says)))) }
 
     module _ {tag : ℕ} {end : ℕ} {next : Cursor} (h : HeaderAt 4 file at (Header.Got tag end next)) where
-      body : drop (at + 8) (take end file) ≡ drop 8 (take (end - at) (drop at file))
-      body =
-          let ends : at + (end - at) ≡ end = omega (arith, h .inside .0) in
-          rw (← part-is file at (end - at) (omega (arith, h .inside)), ends, drop-drop 8 at (take end file))
-
-      front : chunks (drop at file) ≡ chunk tag (drop (at + 8) (take end file)) (chunks (drop (next .at) file))
-      front = next-chunk at (drop at file) _ (exactly (h .reads .says))
-
-      size : at + sizeOf 4 (length (drop (at + 8) (take end file))) ≡ next .at
-      size = sym (framed at (drop at file) _ (exactly (h .reads .says)) .size)
-
-      pub long : length (take (end - at) (drop at file)) ≡ end - at
-      long = rw (length-take (end - at) (drop at file), length-drop at file) (omega (arith, h .inside))
-
       pub stop : {f : Refusal} {p : ℕ} → StepAt kind tag seen (take (end - at) (drop at file)) (Stepped.Stop f) → p ≡ placeOf at (f .at) → SurveyOf kind file (Surveyed.Refused (record { why = f .why; at = p }))
       stop {f} d place =
-          let judged : judge kind (beforeOf (seen .lengths)) tag (drop (at + 8) (take end file)) ≡ fault (f .why) (f .at) = rw body (stopped (judge kind (beforeOf (seen .lengths)) tag (drop 8 (take (end - at) (drop at file)))) (λ part. seenWith seen (countedOf part)) (d .is)) in
-          record { is = sym (w .is ∙ rw (front, place) (walk-stops kind (beforeOf (seen .lengths)) at tag (drop (at + 8) (take end file)) (chunks (drop (next .at) file)) (λ parts. adding seen parts .totals) judged)) }
+          let judged : judge kind (beforeOf (seen .lengths)) tag (drop (at + 8) (take end file)) ≡ fault (f .why) (f .at) = rw (body h) (stopped (judge kind (beforeOf (seen .lengths)) tag (drop 8 (take (end - at) (drop at file)))) (λ part. seenWith seen (countedOf part)) (d .is)) in
+          record { is = sym (w .is ∙ rw (front h, place) (walk-stops kind (beforeOf (seen .lengths)) at tag (drop (at + 8) (take end file)) (chunks (drop (next .at) file)) (λ parts. adding seen parts .totals) judged)) }
 
       pub turn : {later : Seen} → StepAt kind tag seen (take (end - at) (drop at file)) (Stepped.Go later) → Surveying kind file (next .at) later
       unfolding adding
       turn {later} d =
           let k = known (judge kind (beforeOf (seen .lengths)) tag (drop 8 (take (end - at) (drop at file)))) (λ part. seenWith seen (countedOf part)) (d .is) in
-          let judged : judge kind (beforeOf (seen .lengths)) tag (drop (at + 8) (take end file)) ≡ fine (k .value) = rw body (k .is) in
+          let judged : judge kind (beforeOf (seen .lengths)) tag (drop (at + 8) (take end file)) ≡ fine (k .value) = rw (body h) (k .is) in
           let on = walk-on kind (beforeOf (seen .lengths)) at tag (drop (at + 8) (take end file)) (chunks (drop (next .at) file)) (λ parts. adding seen parts .totals) judged in
-          let onward : rest kind file at seen ≡ rest kind file (next .at) (seenWith seen (countedOf (k .value))) = rw front (on ∙ rw (size, same-before (seen .lengths) (k .value))) in
-          record { few = omega (arith, w .few, d .grown, long, h .inside); is = w .is ∙ onward ∙ ap (rest kind file (next .at)) (k .shows) }
+          let onward : rest kind file at seen ≡ rest kind file (next .at) (seenWith seen (countedOf (k .value))) = rw (front h) (on ∙ rw (size h, same-before (seen .lengths) (k .value))) in
+          record { few = omega (arith, w .few, d .grown, long h, h .inside); is = w .is ∙ onward ∙ ap (rest kind file (next .at)) (k .shows) }

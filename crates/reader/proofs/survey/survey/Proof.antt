@@ -4,7 +4,8 @@ use native.Mathlib.Omega.{arith}
 use lib.ListN.{length}
 use Rattle.wire.specs.declared.header.Header.{Header}
 use Rattle.wire.specs.Answers.{HeaderAt}
-use Rattle.reader.proofs.Surveying.{Surveying, begin, end, no-header, long, stop, turn}
+use Rattle.reader.proofs.Surveying.{Surveying, begin, end, no-header, stop, turn}
+use Rattle.reader.proofs.Standing.{long}
 use Rattle.reader.proofs.survey.survey.Statement.{statement}
 use Rattle.reader.proofs.survey.survey.Tie as tie
 
@@ -39,7 +40,7 @@ step-requires : tie.Need-step-requires Inv-loop μ-loop
 step-requires c κs =
     let t = c .before .before in
     let u = t .before .before in
-    let l = long (u .before .before .loop .inv) (u .before .loop-test .taken) (header t) in
+    let l = long (header t) in
     (rw l (omega (arith, header t .inside)), rw l (omega (arith, header t .inside, u .before .before .loop .inv .few, u .before .before .before .before .before .good)))
 
 returns-2 : tie.Need-returns-2 Inv-loop μ-loop

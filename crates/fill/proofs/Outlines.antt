@@ -1,0 +1,151 @@
+-- One polygon of an LWOB file, put into the tables. Assumes nothing.
+use mathlib.Core.Path.{_≡_, refl, sym, ap, _∙_}
+use mathlib.Core.Bool.{Bool, true, false}
+use mathlib.Core.List.{List, [], _∷_, map}
+use Prim.Native.Nat.{ℕ, _+_}
+use native.Mathlib.Omega.{arith}
+use lib.ListN.{length, drop}
+use lib.IntN.{ℤ}
+use Rattle.format.specs.declared.Kind.the-variants.{LWOB}
+use Rattle.format.specs.declared.Fault.{Fault}
+use Rattle.format.specs.declared.Fault.the-variants.{ItemCut}
+use Rattle.format.specs.Bytes.{if_then_else_, between, absolute}
+use Rattle.format.specs.Limits.{lwobVertexLimit}
+use Rattle.format.specs.Items.{Verdict, fine, fault, Got, _then_, Reader, _>>=_, give, _or_unless_, u2, i2}
+use Rattle.format.specs.Mesh.{Polygon, FACE, PATCH}
+use Rattle.format.specs.Bodies.{lwobVertices, detailsAfter, face, patch}
+use Rattle.format.specs.Said.{got, itself, taking, Says, Keeps, ReadsAt, Put}
+use Rattle.format.proofs.Saying.{met, exact, exactly, stopped, on, on-some, given}
+use Rattle.format.proofs.Sounding.{sound-not, sound-first, sound-next}
+use Rattle.wire.specs.declared.cursor.Sign.{Sign}
+use Rattle.wire.specs.Answers.{signOf}
+use Rattle.bodies.specs.Answers.{faceSizes, entryBytes}
+use Rattle.fill.specs.Polygons.{VerticesRoom, VerticesPut, EntryRoom, EntryPut, outline}
+use Rattle.fill.proofs.Vertices.{above-length, vertices-counted}
+use Rattle.format.proofs.Verdicts.{same-fine, then-fine, chosen}
+use Rattle.fill.proofs.OnePolygon.{after-first, run-cut, run-room, run-says}
+
+-- ---- what each starts with
+
+module _ (kind : ℕ) where
+  abbrev surfaced : List ℕ → ℤ → Polygon
+  surfaced vs z = record { kind = kind; surface = absolute z; vertices = vs }
+
+  abbrev rest : List ℕ → Reader Polygon
+  rest vs = i2 >>= (λ z. give (surfaced vs z))
+
+  rest-keeps : (vs : List ℕ) (at : ℕ) (t : List ℕ) (g : Got Polygon) → rest vs at t ≡ fine g → g .value .vertices ≡ vs
+  unfolding _>>=_ _then_
+  rest-keeps vs at t g e = by (i2 at t) e
+    where
+      by : (v : Verdict (Got ℤ)) → (v then λ z. give (surfaced vs (z .value)) (z .next) (z .left)) ≡ fine g → g .value .vertices ≡ vs
+      by (fine z) q = let same : record { value = surfaced vs (z .value); next = z .next; left = z .left } ≡ g = cc in sym (ap (λ g. g .value .vertices) same)
+      by (fault why p) q = absurd (let z : _≡_ {A = ℕ} 0 1 = cc in omega arith)
+
+  module _ {points base : ℕ} {s : List ℕ} {at : ℕ} {words : List ℕ} {i : ℕ} {vertices : List ℕ} {m : ℕ} (r : EntryRoom (outline points kind) itself points base s at words i vertices m) where
+    pub outline-cut : {p : ℕ} → Says u2 itself s at (fault ItemCut p) → ⊥
+    unfolding outline lwobVertices
+    outline-cut w = run-cut itself (between 1 lwobVertexLimit) LWOB rest itself rest-keeps r w
+
+    module _ {n next : ℕ} (w : ReadsAt u2 (taking 2) s at (got s n next)) where
+      pub outline-vertices : VerticesRoom LWOB n points base s next vertices m
+      unfolding outline lwobVertices
+      outline-vertices = run-room itself (between 1 lwobVertexLimit) LWOB rest itself rest-keeps r w
+
+      module _ {vertices′ : List ℕ} {end : ℕ} (q : VerticesPut LWOB n points base s next vertices m vertices′ end) where
+        run : Says (lwobVertices points) itself s at (got s (q .vertices) end)
+        unfolding outline lwobVertices
+        run = run-says itself (between 1 lwobVertexLimit) LWOB rest itself rest-keeps r w (q .reads .says)
+
+        pub sign-cut : {p : ℕ} → Says i2 signOf s end (fault ItemCut p) → ⊥
+        unfolding outline
+        sign-cut v = sound-not (sound-first _ _ end (drop end s) (sound-next _ _ run (r .sound))) (stopped v)
+
+        pub outline-put : {x : Sign} {last : ℕ} {words′ : List ℕ} → Keeps i2 signOf (taking 2) s end (got s x last) → Put words i (kind ∷ n ∷ x .number ∷ []) words′
+            → EntryPut (outline points kind) itself base s at words i words′ vertices m vertices′ last n
+        unfolding outline
+        outline-put {x} {last} v p =
+            let many = vertices-counted q in
+            let placed : length (map (λ v. base + v) (q .vertices)) ≡ n = above-length base (q .vertices) ∙ many in
+            let made : Polygon = record { kind = kind; surface = x .number; vertices = q .vertices } in
+            let is : (z : ℤ) → signOf z ≡ x → surfaced (q .vertices) z ≡ made = λ z e. ap (λ y. record { kind = kind; surface = y .number; vertices = q .vertices }) e in
+            record {
+              entry = made;
+              reads = record { says = on _ run (on-some _ (v .says) (λ z e. given (is z e))); moves = omega (arith, w .moves, q .reads .moves, v .moves) };
+              count = sym many;
+              put-words = rw placed p;
+              put-vertices = q .put;
+            }
+
+-- ---- patches and faces, whose surface number is judged
+
+-- what two readers read, one after the other
+follows : {A B : Type 0} (r : Reader A) (k : A → Reader B) (at : ℕ) (t : List ℕ) (g : Got B) → (r >>= k) at t ≡ fine g → (a : Got A) × (r at t ≡ fine a) × (k (a .value) (a .next) (a .left) ≡ fine g)
+unfolding _>>=_
+follows r k at t g e = then-fine (r at t) _ e
+
+-- a judged item that is fine is the item
+unjudged-is : {A : Type 0} (r : Reader A) (why : Fault) (ok : A → Bool) (at : ℕ) (t : List ℕ) (g : Got A) → (r or why unless ok) at t ≡ fine g → r at t ≡ fine g
+unfolding _or_unless_
+unjudged-is r why ok at t g e =
+    let a = then-fine (r at t) _ e in
+    a .1 ∙ chosen (ok (a .0 .value)) (fine (a .0)) why at (a .2) .1
+
+outline-is : (points kind at : ℕ) (t : List ℕ) (v : Got (List ℕ)) → lwobVertices points at t ≡ fine v → (z : Got ℤ) → i2 (v .next) (v .left) ≡ fine z
+    → outline points kind at t ≡ fine (record { value = surfaced kind (v .value) (z .value); next = z .next; left = z .left })
+unfolding outline
+outline-is points kind at t v e z e′ = after-first (lwobVertices points) (rest kind) at t v e ∙ after-first i2 (λ x. give (surfaced kind (v .value) x)) (v .next) (v .left) z e′
+
+patch-outline : (points names at : ℕ) (t : List ℕ) (g : Got Polygon) → patch points names at t ≡ fine g → outline points PATCH at t ≡ fine g
+unfolding patch
+patch-outline points names at t g e =
+    let v = follows (lwobVertices points) _ at t g e in
+    let z = follows _ _ (v .0 .next) (v .0 .left) g (v .2) in
+    let made : record { value = surfaced PATCH (v .0 .value) (z .0 .value); next = z .0 .next; left = z .0 .left } ≡ g = same-fine (z .2) in
+    outline-is points PATCH at t (v .0) (v .1) (z .0) (unjudged-is i2 _ _ _ _ (z .0) (z .1)) ∙ ap fine made
+
+face-outline : (points names at : ℕ) (t : List ℕ) (g : Got (Polygon × ℕ)) → face points names at t ≡ fine g → (o : Got Polygon) × (outline points FACE at t ≡ fine o) × (o .value ≡ g .value .0)
+unfolding face
+face-outline points names at t g e =
+    let v = follows (lwobVertices points) _ at t g e in
+    let z = follows _ _ (v .0 .next) (v .0 .left) g (v .2) in
+    let n = follows (detailsAfter points names (z .0 .value)) _ (z .0 .next) (z .0 .left) g (z .2) in
+    let made : _≡_ {A = Got (Polygon × ℕ)} (record { value = (surfaced FACE (v .0 .value) (z .0 .value), n .0 .value); next = n .0 .next; left = n .0 .left }) g = same-fine (n .2) in
+    (record { value = surfaced FACE (v .0 .value) (z .0 .value); next = z .0 .next; left = z .0 .left }, outline-is points FACE at t (v .0) (v .1) (z .0) (unjudged-is i2 _ _ _ _ (z .0) (z .1)), ap (λ g. g .value .0) made)
+
+module _ (names : ℕ) {points base : ℕ} {s : List ℕ} {at : ℕ} {words : List ℕ} {i : ℕ} {vertices : List ℕ} {m : ℕ} where
+  module _ (r : EntryRoom (patch points names) itself points base s at words i vertices m) where
+    reads-too : outline points PATCH at (drop at s) ≡ fine (r .sound .value)
+    reads-too = patch-outline points names at (drop at s) (r .sound .value) (r .sound .is)
+
+    pub patch-room : EntryRoom (outline points PATCH) itself points base s at words i vertices m
+    patch-room = record { sound = record { value = r .sound .value; is = reads-too }; words-fit = r .words-fit; vertices-fit = r .vertices-fit; small = r .small }
+
+    pub patch-put : {words′ vertices′ : List ℕ} {next many : ℕ} → EntryPut (outline points PATCH) itself base s at words i words′ vertices m vertices′ next many → EntryPut (patch points names) itself base s at words i words′ vertices m vertices′ next many
+    patch-put q =
+        let is : patch points names at (drop at s) ≡ got s (q .entry) _ = r .sound .is ∙ sym reads-too ∙ exactly (q .reads .says) in
+        record { entry = q .entry; reads = record { says = exact (sym is); moves = q .reads .moves }; count = q .count; put-words = q .put-words; put-vertices = q .put-vertices }
+
+  module _ (r : EntryRoom (face points names) (λ f. f .0) points base s at words i vertices m) where
+    pub face-room : EntryRoom (outline points FACE) itself points base s at words i vertices m
+    face-room =
+        let o = face-outline points names at (drop at s) (r .sound .value) (r .sound .is) in
+        record { sound = record { value = o .0; is = o .1 }; words-fit = r .words-fit; vertices-fit = rw (o .2) (r .vertices-fit); small = r .small }
+
+    pub face-stops : {why : Fault} {p : ℕ} → Says (face points names) faceSizes s at (fault why p) → ⊥
+    face-stops w = sound-not (r .sound) (stopped w)
+
+    pub face-put : {words′ vertices′ : List ℕ} {end many : ℕ} {z : ℕ × ℕ} {next : ℕ} → EntryPut (outline points FACE) itself base s at words i words′ vertices m vertices′ end many
+        → Keeps (face points names) faceSizes entryBytes s at (got s z next) → EntryPut (face points names) (λ f. f .0) base s at words i words′ vertices m vertices′ next many
+    face-put {end = end} q w =
+        let f = met (w .says) in
+        let o = face-outline points names at (drop at s) _ (f .is) in
+        let one : _≡_ {A = Got Polygon} (o .0) (record { value = q .entry; next = end; left = drop end s }) = same-fine (sym (o .1) ∙ exactly (q .reads .says)) in
+        let same : q .entry ≡ f .value .0 = sym (ap (λ g. g .value) one) ∙ o .2 in
+        record {
+          entry = f .value;
+          reads = record { says = exact (sym (f .is)); moves = omega (arith, w .moves) };
+          count = q .count ∙ ap (λ p. length (p .vertices)) same;
+          put-words = rw (← same) (q .put-words);
+          put-vertices = rw (← same) (q .put-vertices);
+        }

@@ -1,0 +1,91 @@
+-- The vertices of a polygon, put into their table one after another. Assumes nothing.
+use mathlib.Core.Path.{_≡_, refl, sym, ap, _∙_}
+use mathlib.Core.List.{List, [], _∷_, _++_, map-append, append-assoc, append-nil}
+use Prim.Native.Nat.{ℕ, _+_, _-_, _*_, _^_, _≤_, _<_}
+use native.Mathlib.Omega.{arith}
+use lib.ListN.{length, drop, set, length-append, length-map, length-set}
+use borrow.Author.Tests.{ltb-true}
+use Rattle.format.specs.declared.Kind.{Kind}
+use Rattle.format.specs.declared.Fault.{Fault}
+use Rattle.format.specs.Items.{fault, times}
+use Rattle.format.specs.Bodies.{vertex}
+use Rattle.format.specs.Said.{got, itself, keep, taking, Says, ReadsAt, Put}
+use Rattle.format.proofs.Saying.{exactly, stopped, was-good}
+use Rattle.format.proofs.Entries.{Timing, times-begin, times-turn, times-stop, times-end, times-length}
+use Rattle.format.proofs.Sounding.{sound-not}
+use Rattle.format.proofs.Puts.{put-none, put-snoc}
+use Rattle.bodies.specs.Answers.{index}
+use Rattle.fill.specs.Polygons.{above, VerticesRoom, VerticesPut}
+
+pub above-length : (base : ℕ) (vs : List ℕ) → length (above base vs) ≡ length vs
+above-length base vs = length-map vs (λ v. base + v)
+
+-- the first i of the n vertices are put, and those that follow are read from here on
+pub record VerticesFilling (kind : Kind) (n points base : ℕ) (s : List ℕ) (from : ℕ) (table₀ : List ℕ) (m : ℕ) (table : List ℕ) (at i : ℕ) : Type 0 where
+  pub room : VerticesRoom kind n points base s from table₀ m
+  pub few : i ≤ n
+  pub far : from + i * 2 ≤ at
+  pub done : List ℕ
+  pub count : length done ≡ i
+  pub kept : length table ≡ length table₀
+  pub put : Put table₀ m (above base done) table
+  pub rest : Timing (keep itself (times n (vertex (index kind) points) from (drop from s))) (vertex (index kind) points) s at (n - i) (λ vs. done ++ vs)
+
+module _ {kind : Kind} {n points base : ℕ} {s : List ℕ} {from : ℕ} {table₀ : List ℕ} {m : ℕ} where
+  pub vertices-begin : VerticesRoom kind n points base s from table₀ m → VerticesFilling kind n points base s from table₀ m table₀ from 0
+  vertices-begin r =
+      let all : n - 0 ≡ n = omega arith in
+      record {
+        room = r;
+        few = omega arith;
+        far = omega arith;
+        done = [];
+        count = refl;
+        kept = refl;
+        put = put-none table₀ m;
+        rest = rw all (times-begin itself (λ vs. vs) (λ vs. refl));
+      }
+
+  -- there are as many as were asked for
+  pub vertices-counted : {table′ : List ℕ} {next : ℕ} (p : VerticesPut kind n points base s from table₀ m table′ next) → length (p .vertices) ≡ n
+  vertices-counted p = times-length (vertex (index kind) points) n from (drop from s) _ (exactly (p .reads .says))
+
+  module _ {table : List ℕ} {at i : ℕ} (f : VerticesFilling kind n points base s from table₀ m table at i) where
+    pub vertices-end : n ≤ i → VerticesPut kind n points base s from table₀ m table at
+    vertices-end h =
+        let none : n - i ≤ 0 = omega arith in
+        record {
+          vertices = f .done;
+          reads = record { says = record { is = rw (← append-nil (f .done)) (times-end (f .rest) none) }; moves = omega (arith, f .far, f .few) };
+          put = f .put;
+        }
+
+    module _ (some : i < n) where
+      left : 0 < n - i
+      left = omega arith
+
+      pub never-stopped : {why : Fault} {p : ℕ} → Says (vertex (index kind) points) itself s at (fault why p) → ⊥
+      never-stopped w = sound-not (f .room .sound) (stopped {r = times n (vertex (index kind) points)} {h = itself} (record { is = times-stop (f .rest) left w }))
+
+      pub place-fits : m + i < length table
+      place-fits = omega (arith, f .kept, f .room .room)
+
+      module _ {v next : ℕ} (w : ReadsAt (vertex (index kind) points) (taking 2) s at (got s v next)) where
+        pub vertex-fits : base + v < 2 ^ 32
+        vertex-fits = omega (arith, ltb-true v points (was-good _ _ _ (w .says)), f .room .small)
+
+        pub vertices-turn : VerticesFilling kind n points base s from table₀ m (set table (m + i) (base + v)) next (i + 1)
+        vertices-turn =
+            let one : n - i - 1 ≡ n - (i + 1) = omega arith in
+            let same : (x : ℕ) (xs : List ℕ) → x ≡ v → f .done ++ (x ∷ xs) ≡ f .done ++ (v ∷ []) ++ xs = λ x xs e. rw e (sym (append-assoc (f .done) (v ∷ []) xs)) in
+            let place : m + length (above base (f .done)) ≡ m + i = ap (λ k. m + k) (above-length base (f .done) ∙ f .count) in
+            record {
+              room = f .room;
+              few = omega arith;
+              far = omega (arith, f .far, w .moves);
+              done = f .done ++ (v ∷ []);
+              count = length-append (f .done) (v ∷ []) ∙ omega (arith, f .count);
+              kept = length-set table (m + i) (base + v) ∙ f .kept;
+              put = rw (map-append (λ v. base + v) (f .done) (v ∷ []), ← place) (put-snoc (f .put) (base + v) (omega (arith, place, f .room .room)));
+              rest = rw one at (times-turn (f .rest) left (w .says) same);
+            }
