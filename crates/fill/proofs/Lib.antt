@@ -1,4 +1,4 @@
-mod Words
+pub mod Words
 mod Copies
 mod Tags
 mod Missing

@@ -154,6 +154,9 @@ bodied kind body ps e =
     nothing-left [] q = refl
     nothing-left (x ∷ l) q = absurd (let z : _≡_ {A = ℕ} 0 1 = cc in omega arith)
 
+pub points-length : (kind : Kind) (body : List ℕ) (ps : List Point) → whole 0 (pointsBody kind) 8 body ≡ fine (points ps) → length (joined (map pointWords ps)) ≡ length body / 4
+points-length kind body ps e = rw (bodied kind body ps e .are) (length-words (length body / 4) body)
+
 -- ---- the loop that puts the words
 
 pub record PointsFilling (s table₀ : List ℕ) (m n i : ℕ) (table : List ℕ) : Type 0 where

@@ -24,10 +24,10 @@ pub record Makes {A : Type 0} (P : A → Type 0) (r : Reader A) : Type 0 where
   pub each : (at : ℕ) (b : List ℕ) (g : Got A) → r at b ≡ fine g → P (g .value)
 
 module _ {A : Type 0} (P : A → Type 0) where
-  makes-give : (x : A) → P x → Makes P (give x)
+  pub makes-give : (x : A) → P x → Makes P (give x)
   makes-give x p = record { each = λ at b g e. let same : record { value = x; next = at; left = b } ≡ g = cc in subst P (ap (λ y. y .value) same) p }
 
-  makes-then : {B : Type 0} (r : Reader B) (k : B → Reader A) → ((x : B) → Makes P (k x)) → Makes P (r >>= k)
+  pub makes-then : {B : Type 0} (r : Reader B) (k : B → Reader A) → ((x : B) → Makes P (k x)) → Makes P (r >>= k)
   unfolding _>>=_ _then_
   makes-then r k later = record { each = λ at b g e. by (r at b) g e }
     where
@@ -35,7 +35,7 @@ module _ {A : Type 0} (P : A → Type 0) where
       by (fine x) g e = later (x .value) .each (x .next) (x .left) g e
       by (fault why p) g e = absurd (let z : _≡_ {A = ℕ} 0 1 = cc in omega arith)
 
-  makes-length : (width : ℕ) (ok : ℕ → Bool) {r : Reader A} → Makes P r → Makes P (ofLength width ok r)
+  pub makes-length : (width : ℕ) (ok : ℕ → Bool) {r : Reader A} → Makes P r → Makes P (ofLength width ok r)
   unfolding ofLength
   makes-length width ok {r} w = record { each = λ at b g e. by at b g (ok (length b)) e }
     where

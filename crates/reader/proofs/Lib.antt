@@ -4,4 +4,6 @@ pub mod Stepping
 pub mod Tallying
 pub mod Standing
 pub mod Surveying
+pub mod Pointing
+pub mod Filling
 pub mod Forming

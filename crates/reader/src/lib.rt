@@ -1,7 +1,8 @@
-// The first pass over a file: its chunks judged in file order, and counted. Every answer is the rule book's.
+// A file: the first pass judges its chunks in file order and counts; the second puts what they hold into the tables. Every answer is the rule book's.
 pub mod chunk;
 pub mod counts;
 pub mod first;
 pub mod form;
+pub mod points;
 pub mod room;
 pub mod survey;
