@@ -6,7 +6,7 @@ use native.Mathlib.Omega.{arith}
 use lib.ListN.{length, drop, length-append}
 use Rattle.format.specs.declared.Fault.the-variants.{ItemCut}
 use Rattle.format.specs.Bytes.{sum, joined}
-use Rattle.format.specs.Items.{Verdict, fine, fault, Got, _then_, whole, u4}
+use Rattle.format.specs.Items.{_then_, Verdict, fault, Got, whole, u4}
 use Rattle.format.specs.Mesh.{Polygon, polygonWords, polygonSize}
 use Rattle.format.specs.Bodies.{Part, points, names, polygons, tagging, surface, skipped, polygonKind, polygonsBody}
 use Rattle.format.specs.Rules.{from}

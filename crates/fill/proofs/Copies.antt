@@ -8,13 +8,12 @@ use native.Mathlib.Numerals.{add-one}
 use lib.ListN.{length, take, drop, getD, set, drop-of-length-le, length-drop, length-take, length-set, length-append, length-map}
 use lib.Dec.{leb}
 use borrow.Author.Tests.{leb-true}
-use lib.Seq.{take-suc, drop-cons, drop-drop, getD-drop}
-use Rattle.format.specs.declared.Fault.{Fault}
-use Rattle.format.specs.declared.Fault.the-variants.{WrongLength, BadName}
-use Rattle.format.specs.Bytes.{if_then_else_, empty, joined}
-use Rattle.format.specs.Items.{Verdict, fine, fault, Got, _then_, _>>=_, give, _or_unless_, whole, string}
+use lib.Seq.{take-suc, drop-cons, getD-drop}
+use Rattle.format.specs.declared.Fault.the-variants.{WrongLength}
+use Rattle.format.specs.Bytes.{empty, joined}
+use Rattle.format.specs.Items.{_or_unless_, _then_, Verdict, fine, Got, _>>=_, give, whole, string}
 use Rattle.format.specs.Mesh.{Name}
-use Rattle.format.specs.Bodies.{Part, names, newName, name, namesAfter, namesBody}
+use Rattle.format.specs.Bodies.{names, newName, name, namesAfter, namesBody}
 use Rattle.format.specs.Said.{Put}
 use Rattle.fill.specs.Puts.{NamesRoom, NamesPut}
 use Rattle.format.proofs.Saying.{exactly}

@@ -9,7 +9,7 @@ use lib.ListN.{length, drop, set}
 use Rattle.format.specs.declared.Kind.{Kind}
 use Rattle.format.specs.declared.Kind.the-variants.{LWO2}
 use Rattle.format.specs.declared.Fault.the-variants.{ItemCut, VertexCount}
-use Rattle.format.specs.Items.{fine, fault, Got, _then_, Reader, _>>=_, give, _or_unless_, times, u2}
+use Rattle.format.specs.Items.{_then_, fine, fault, Got, Reader, _>>=_, give, _or_unless_, times, u2}
 use Rattle.format.specs.Mesh.{Polygon, polygonSize}
 use Rattle.format.specs.Bodies.{vertex, countBits, lwo2Vertices, polygon}
 use Rattle.format.specs.Said.{got, itself, taking, Says, ReadsAt, Sound, Put}

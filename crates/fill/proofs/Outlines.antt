@@ -1,6 +1,6 @@
 -- One polygon of an LWOB file, put into the tables. Assumes nothing.
-use mathlib.Core.Path.{_≡_, refl, sym, ap, _∙_}
-use mathlib.Core.Bool.{Bool, true, false}
+use mathlib.Core.Path.{_≡_, sym, ap, _∙_}
+use mathlib.Core.Bool.{Bool}
 use mathlib.Core.List.{List, [], _∷_, map}
 use Prim.Native.Nat.{ℕ, _+_}
 use native.Mathlib.Omega.{arith}
@@ -9,7 +9,7 @@ use lib.IntN.{ℤ}
 use Rattle.format.specs.declared.Kind.the-variants.{LWOB}
 use Rattle.format.specs.declared.Fault.{Fault}
 use Rattle.format.specs.declared.Fault.the-variants.{ItemCut}
-use Rattle.format.specs.Bytes.{if_then_else_, between, absolute}
+use Rattle.format.specs.Bytes.{between, absolute}
 use Rattle.format.specs.Limits.{lwobVertexLimit}
 use Rattle.format.specs.Items.{Verdict, fine, fault, Got, _then_, Reader, _>>=_, give, _or_unless_, u2, i2}
 use Rattle.format.specs.Mesh.{Polygon, FACE, PATCH}

@@ -1,6 +1,6 @@
 -- The words of a body of points. Assumes nothing.
 use mathlib.Core.Path.{_≡_, refl, sym, ap, _∙_}
-use mathlib.Core.Bool.{Bool, true, false}
+use mathlib.Core.Bool.{true}
 use mathlib.Core.List.{List, [], _∷_, _++_, map}
 use Prim.Native.Nat.{ℕ, zero, suc, _+_, _-_, _*_, _/_, _≤_, _<_}
 use native.Mathlib.Omega.{arith}
@@ -9,13 +9,12 @@ use lib.ListN.{length, take, drop, set, length-drop, length-set}
 use lib.Seq.{drop-drop}
 use borrow.Author.Tests.{leb-true}
 use Rattle.format.specs.declared.Kind.{Kind}
-use Rattle.format.specs.declared.Fault.{Fault}
 use Rattle.format.specs.declared.Fault.the-variants.{ItemCut, NotFinite, WrongLength}
-use Rattle.format.specs.Bytes.{if_then_else_, number, finite, empty, joined}
-use Rattle.format.specs.Items.{Verdict, fine, fault, Got, _then_, Reader, _>>=_, give, _or_unless_, whole, upTo, many, item, uint, u4, float}
+use Rattle.format.specs.Bytes.{number, finite, empty, joined}
+use Rattle.format.specs.Items.{_or_unless_, fine, Got, _>>=_, give, whole, upTo, many, item, uint, float}
 use Rattle.format.specs.Chunks.{ofLength}
 use Rattle.format.specs.Mesh.{Point, pointWords}
-use Rattle.format.specs.Bodies.{Part, points, point, wholePoints, pointsBody}
+use Rattle.format.specs.Bodies.{points, point, wholePoints, pointsBody}
 use Rattle.format.specs.Said.{Put}
 use Rattle.format.proofs.Verdicts.{then-fine, chosen}
 use Rattle.format.proofs.Puts.{put-none, put-snoc}

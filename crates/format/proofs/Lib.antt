@@ -5,5 +5,6 @@ pub mod Sounding
 pub mod Places
 pub mod Strings
 pub mod Verdicts
+pub mod Walks
 pub mod Puts
 pub mod Tiling

@@ -1,11 +1,10 @@
 -- Words that are put into a table, one after another. Assumes nothing.
 use mathlib.Core.Path.{_≡_, refl, sym, ap, _∙_}
-use mathlib.Core.List.{List, [], _∷_, _++_, append-assoc, append-nil, map}
-use Prim.Native.Nat.{ℕ, zero, suc, _+_, _-_, _*_, _^_, _≤_, _<_}
-use native.Mathlib.Numerals.{add-one}
+use mathlib.Core.List.{List, [], _∷_, _++_, append-assoc, append-nil, map, map-append}
+use Prim.Native.Nat.{ℕ, suc, _+_, _-_, _≤_, _<_}
 use native.Mathlib.Nat.{add-zero}
 use native.Mathlib.Omega.{arith}
-use lib.ListN.{length, take, drop, getD, set, length-take, length-drop, length-append, length-set, take-append-drop}
+use lib.ListN.{length, take, drop, getD, set, length-take, length-drop, length-append, take-append-drop}
 use lib.Seq.{take-at, drop-append-add, drop-drop, drop-cons, set-at}
 use Rattle.format.specs.Bytes.{joined}
 use Rattle.format.specs.Said.{Put}
@@ -14,6 +13,12 @@ pub joined-append : {A : Type 0} (xss yss : List (List A)) → joined (xss ++ ys
 unfolding joined
 joined-append [] yss = refl
 joined-append (xs ∷ xss) yss = rw (joined-append xss yss, append-assoc)
+
+pub joined-map-append : {A B : Type 0} (f : A → List B) (xs ys : List A) → joined (map f (xs ++ ys)) ≡ joined (map f xs) ++ joined (map f ys)
+joined-map-append f xs ys = ap joined (map-append f xs ys) ∙ joined-append (map f xs) (map f ys)
+
+pub total-append : {A B : Type 0} (f : A → List B) (xs ys : List A) → length (joined (map f (xs ++ ys))) ≡ length (joined (map f xs)) + length (joined (map f ys))
+total-append f xs ys = ap length (joined-map-append f xs ys) ∙ length-append (joined (map f xs)) (joined (map f ys))
 
 pub put-none : (t : List ℕ) (m : ℕ) → Put t m [] t
 put-none t m = record { put = sym (rw (append-nil, add-zero m) (take-append-drop m t)) }

@@ -2,15 +2,15 @@
 -- limit bounds every count of its mesh. Assumes nothing.
 use Prim.Native.Nat.{ℕ, _+_, _*_, _%_, _≤_}
 use Prim.Native.String.{String}
-use mathlib.Core.Path.{_≡_, ap, _∙_}
-use mathlib.Core.List.{List, [], _∷_, _++_, map, map-append, append-nil}
+use mathlib.Core.Path.{ap}
+use mathlib.Core.List.{List, [], _∷_, _++_, map, append-nil}
 use native.Mathlib.Omega.{arith}
 use lib.ListN.{length, replicate, length-append}
 use Rattle.format.specs.Bytes.{spelt, joined}
 use Rattle.format.specs.declared.Kind.the-variants.{LWO2}
 use Rattle.format.specs.Mesh.{Polygon, Name, Mesh}
 use Rattle.format.specs.Canonical.{bytes, vxBytes, stringBytes, chunkBytes, pointBytes, polygonBytes, typeOf, pairsOf, pairBytes, runs, unlessEmpty, runChunks, surfaceChunks, canonicalChunks, encoded, canonical}
-use Rattle.format.proofs.Puts.{joined-append}
+use Rattle.format.proofs.Puts.{total-append}
 use Rattle.laws.proofs.Facts.{length-entries}
 use Rattle.laws.proofs.Items.{length-bytes}
 use Rattle.laws.proofs.Bodies.{length-point, length-string, length-vx}
@@ -20,10 +20,6 @@ use Rattle.laws.proofs.Form.{length-form}
 -- the length of what some elements are written as, joined
 abbrev total : {A B : Type 0} → (A → List B) → List A → ℕ
 total f xs = length (joined (map f xs))
-
-total-append : {A B : Type 0} (f : A → List B) (xs ys : List A) → total f (xs ++ ys) ≡ total f xs + total f ys
-total-append f xs ys =
-    ap (λ (l : List (List _)). length (joined l)) (map-append f xs ys) ∙ ap length (joined-append (map f xs) (map f ys)) ∙ length-append (joined (map f xs)) (joined (map f ys))
 
 -- a chunk is no shorter than what it holds
 total-unless : {A : Type 0} (tag type : String) (bytesOf : A → List ℕ) (xs : List A) → total bytesOf xs ≤ total encoded (unlessEmpty tag type bytesOf xs)

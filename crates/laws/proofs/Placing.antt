@@ -11,13 +11,13 @@ use borrow.Author.Tests.{leb-true}
 use Rattle.format.specs.declared.Kind.{Kind}
 use Rattle.format.specs.declared.Kind.the-variants.{LWOB, LWO2}
 use Rattle.format.specs.declared.Fault.{Fault}
-use Rattle.format.specs.declared.Fault.the-variants.{BadHeader, WrongLength, ItemCut, StringOpen, SurfaceValue, OutOfOrder}
-use Rattle.format.specs.Bytes.{if_then_else_, _is_, number, all, between, empty, negative}
+use Rattle.format.specs.declared.Fault.the-variants.{BadHeader, WrongLength, ItemCut, StringOpen, SurfaceValue}
+use Rattle.format.specs.Bytes.{if_then_else_, _is_, number, all, empty, negative}
 use Rattle.format.specs.Items.{Verdict, fine, fault, Got, Reader, _>>=_, _then_, give, _or_unless_, _and_, whole, times, upTo, many, item, uint, i2, float, vx, long, string, toZero, stringSize}
 use Rattle.format.specs.Chunks.{Chunk, headerOf, ofLength, sizeOf, lengthOf, wellFormed, chunkOf, sub, unjudged}
 use Rattle.format.specs.Surfaces.{level, floatLevel, lwobValue, blockType, blockHeader, nested, block, lwo2Value, valueOf}
 use Rattle.format.specs.Mesh.{Name}
-use Rattle.format.specs.Bodies.{Part, skipped, point, pointsBody, name, namesAfter, namesBody, lwobVertices, detail, details, detailsAfter, face, facesBody, patch, patchesBody, lwo2Vertices, polygon, polygonsBody, pair, taggingBody, surfaceName, surfaceBody}
+use Rattle.format.specs.Bodies.{Part, point, pointsBody, name, namesAfter, namesBody, lwobVertices, detail, details, detailsAfter, face, facesBody, patch, patchesBody, lwo2Vertices, polygon, polygonsBody, pair, taggingBody, surfaceName, surfaceBody}
 use Rattle.format.specs.Rules.{Before, when_read_, judge}
 use Rattle.laws.proofs.Facts.{every-at}
 

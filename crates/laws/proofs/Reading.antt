@@ -1,14 +1,14 @@
 -- What a reader reads back. `Reads r w x`: from the bytes w, in front of any rest, r reads x. `Ends r w x`: from w alone. Assumes nothing.
 use Prim.Native.Nat.{ℕ, zero, suc, _+_, _≤_, _<_}
-use mathlib.Core.Path.{_≡_, refl, sym, ap}
+use mathlib.Core.Path.{_≡_, sym, ap}
 use mathlib.Core.List.{List, [], _∷_, _++_, map, append-assoc, append-nil, map-id}
-use mathlib.Core.Bool.{Bool, true, false}
+use mathlib.Core.Bool.{Bool, true}
 use native.Mathlib.Omega.{arith}
 use native.Mathlib.Nat.{add-zero, add-assoc}
 use lib.ListN.{length, length-append}
-use Rattle.format.specs.Bytes.{if_then_else_, joined, all}
+use Rattle.format.specs.Bytes.{joined, all}
 use Rattle.format.specs.declared.Fault.{Fault}
-use Rattle.format.specs.Items.{Verdict, fine, fault, Got, Reader, give, _then_, _>>=_, _or_unless_, whole, times, upTo, many}
+use Rattle.format.specs.Items.{_then_, Verdict, fine, Got, Reader, give, _>>=_, _or_unless_, whole, times, upTo, many}
 use Rattle.laws.proofs.Facts.{all-first, all-rest}
 
 -- ---- what a reader reads back

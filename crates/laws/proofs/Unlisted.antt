@@ -3,23 +3,24 @@
 use Prim.Native.Nat.{ℕ, _+_, _≤_}
 use mathlib.Core.Path.{_≡_, refl, ap, _∙_}
 use mathlib.Core.List.{List, [], _∷_, _++_, map}
-use mathlib.Core.Bool.{Bool, true, not}
+use mathlib.Core.Bool.{true, not}
 use native.Mathlib.Omega.{arith}
 use native.Mathlib.Nat.{zero-add}
 use lib.ListN.{length, take, drop, length-append}
 use borrow.Author.Tests.{not-true}
 use Rattle.format.specs.Bytes.{_is_, number, all, sum, joined}
 use Rattle.format.specs.Limits.{fileLimit}
-use Rattle.format.specs.Items.{Verdict, fine, fault, _then_}
+use Rattle.format.specs.Items.{fine, _then_}
 use Rattle.format.specs.declared.Kind.{Kind}
 use Rattle.format.specs.declared.Kind.the-variants.{LWOB, LWO2}
 use Rattle.format.specs.Chunks.{Chunk, sizeOf, lengthOf, wellFormed, Chunks, finished, broken, chunk, chunks}
 use Rattle.format.specs.Mesh.{Mesh, Polygon}
 use Rattle.format.specs.Bodies.{Part, points, names, polygons, tagging, surface, skipped}
-use Rattle.format.specs.Rules.{unlistedTag, Before, start, after, judge, located, walk, pointsOf, namesOf, surfacesOf, skippedOf, detailsOf, polygonsIn, meshOf, gives, form, outcome, rules}
+use Rattle.format.specs.Rules.{unlistedTag, Before, start, after, judge, walk, pointsOf, namesOf, surfacesOf, skippedOf, detailsOf, polygonsIn, meshOf, gives, form, outcome, rules}
 use Rattle.format.specs.Canonical.{formBytes}
 use Rattle.laws.proofs.Facts.{impossible, all-at}
 use Rattle.format.proofs.Verdicts.{then-fine}
+use Rattle.format.proofs.Walks.{next}
 use Rattle.laws.proofs.Chunks.{chunkIn, reads-whole}
 use Rattle.laws.proofs.Tiles.{inFront, next-chunk, chunks-row, Tiled, tiled}
 use Rattle.laws.proofs.Walk.{walk-on}
@@ -37,34 +38,14 @@ skips LWO2 b t body u =
 
 -- ---- the walk with one chunk more
 
--- what a chunk that was judged fine and the chunks after it contribute
-record Step (kind : Kind) (b : Before) (place t : ℕ) (body : List ℕ) (rest : Chunks) (parts : List Part) : Type 0 where
-  part : Part
-  later : List Part
-  here : judge kind b t body ≡ fine part
-  rest-fine : walk kind (after b part) (place + sizeOf 4 (length body)) rest ≡ fine later
-  both : part ∷ later ≡ parts
-
-located-fine : (place : ℕ) (v : Verdict Part) (a : Part) → located place v ≡ fine a → v ≡ fine a
-unfolding located
-located-fine place (fine b) a e = e
-located-fine place (fault why at) a e = impossible (cc)
-
-step : (kind : Kind) (b : Before) (place t : ℕ) (body : List ℕ) (rest : Chunks) (parts : List Part) → walk kind b place (chunk t body rest) ≡ fine parts → Step kind b place t body rest parts
-unfolding walk
-step kind b place t body rest parts e =
-    let x = then-fine (located place (judge kind b t body)) _ e in
-    let y = then-fine (walk kind (after b (x .0)) (place + sizeOf 4 (length body)) rest) _ (x .2) in
-    record { part = x .0; later = y .0; here = located-fine place _ (x .0) (x .1); rest-fine = y .1; both = cc (y .2) }
-
 -- whether chunks are fine does not depend on their place
 moved : (kind : Kind) (b : Before) (p q : ℕ) (cs : Chunks) (parts : List Part) → walk kind b p cs ≡ fine parts → walk kind b q cs ≡ fine parts
 unfolding walk
 moved kind b p q finished parts e = e
 moved kind b p q broken parts e = impossible (cc)
 moved kind b p q (chunk t body rest) parts e =
-    let s = step kind b p t body rest parts e in
-    walk-on kind b q t body rest (s .here) (moved kind (after b (s .part)) _ _ rest (s .later) (s .rest-fine)) ∙ ap fine (s .both)
+    let s = next kind b p t body rest parts e in
+    walk-on kind b q t body rest (s .here) (moved kind (after b (s .part)) _ _ rest (s .later) (s .onward)) ∙ ap fine (s .both)
 
 -- the parts before and after the chunk that was put in
 record Inserted (kind : Kind) (b : Before) (place : ℕ) (cs : Chunks) (parts : List Part) : Type 0 where
@@ -79,8 +60,8 @@ unfolding inFront after
 put-in kind b p q t body [] rest parts u e =
     record { front = []; back = parts; whole = refl; walks = walk-on kind b q t body rest (skips kind b t body u) (moved kind b p _ rest parts e) }
 put-in kind b p q t body (c ∷ cs) rest parts u e =
-    let s = step kind b p (c .tag) (c .body) (inFront cs rest) parts e in
-    let i = put-in kind (after b (s .part)) _ (q + sizeOf 4 (length (c .body))) t body cs rest (s .later) u (s .rest-fine) in
+    let s = next kind b p (c .tag) (c .body) (inFront cs rest) parts e in
+    let i = put-in kind (after b (s .part)) _ (q + sizeOf 4 (length (c .body))) t body cs rest (s .later) u (s .onward) in
     record {
       front = s .part ∷ i .front;
       back = i .back;

@@ -1,20 +1,20 @@
 -- The walk over a file that was judged fine, which puts what its chunks make into one table. Assumes nothing.
 use mathlib.Core.Path.{_≡_, refl, sym, ap, subst, _∙_}
-use mathlib.Core.List.{List, [], _∷_, _++_, map, map-append, append-assoc, append-nil}
+use mathlib.Core.List.{List, [], _∷_, _++_, map, append-assoc, append-nil}
 use Prim.Native.Nat.{ℕ, _+_, _-_, _≤_, _<_}
 use native.Mathlib.Omega.{arith}
 use lib.ListN.{length, take, drop, length-append, length-drop, drop-of-length-le}
 use Rattle.format.specs.declared.Kind.{Kind}
-use Rattle.format.specs.declared.Fault.{Fault}
 use Rattle.format.specs.Bytes.{joined}
-use Rattle.format.specs.Items.{Verdict, fine, fault, _then_}
-use Rattle.format.specs.Chunks.{sizeOf, Chunks, chunk, chunks}
+use Rattle.format.specs.Items.{fine}
+use Rattle.format.specs.Chunks.{chunks}
 use Rattle.format.specs.Bodies.{Part}
-use Rattle.format.specs.Rules.{Before, start, after, judge, located, walk}
+use Rattle.format.specs.Rules.{Before, start, after, judge, walk}
 use Rattle.format.specs.Said.{Put}
 use Rattle.format.proofs.Saying.{exactly}
-use Rattle.format.proofs.Verdicts.{same-fine, then-fine}
-use Rattle.format.proofs.Puts.{joined-append, put-none, put-length, put-append}
+use Rattle.format.proofs.Verdicts.{same-fine}
+use Rattle.format.proofs.Walks.{Next, next}
+use Rattle.format.proofs.Puts.{joined-map-append, put-none, put-length, put-append}
 use Rattle.format.proofs.Tiling.{none, no-chunk}
 use Rattle.wire.specs.declared.cursor.Cursor.{Cursor}
 use Rattle.wire.specs.declared.header.Header.{Header}
@@ -25,9 +25,6 @@ use Rattle.reader.proofs.Standing.{body, front, size}
 -- what the parts make
 abbrev made : (Part → List ℕ) → List Part → List ℕ
 made of parts = joined (map of parts)
-
-made-append : (of : Part → List ℕ) (ps qs : List Part) → made of (ps ++ qs) ≡ made of ps ++ made of qs
-made-append of ps qs = ap joined (map-append of ps qs) ∙ joined-append (map of ps) (map of qs)
 
 -- the parts `done` are put, and those that follow are judged from here on
 pub record Filling (of : Part → List ℕ) (kind : Kind) (file table₀ : List ℕ) (at m : ℕ) (table : List ℕ) : Type 0 where
@@ -44,26 +41,6 @@ pub record Filling (of : Part → List ℕ) (kind : Kind) (file table₀ : List 
 pub begin : {of : Part → List ℕ} {kind : Kind} {file table : List ℕ} → FileRoom of kind file table → Filling of kind file table 12 0 table
 unfolding joined
 begin {table = table} r = record { room = r; done = []; more = r .parts; all = refl; before = start; judged = r .sound; here = refl; kept = refl; put = put-none table 0 }
-
--- a chunk and those after it are fine
-record Next (kind : Kind) (b : Before) (place tag : ℕ) (bytes : List ℕ) (rest : Chunks) (parts : List Part) : Type 0 where
-  part : Part
-  later : List Part
-  first : judge kind b tag bytes ≡ fine part
-  are : parts ≡ part ∷ later
-  onward : walk kind (after b part) (place + sizeOf 4 (length bytes)) rest ≡ fine later
-
-located-fine : (place : ℕ) (v : Verdict Part) {a : Part} → located place v ≡ fine a → v ≡ fine a
-unfolding located
-located-fine place (fine a) e = e
-located-fine place (fault why p) e = absurd (let z : _≡_ {A = ℕ} 0 1 = cc in omega arith)
-
-next : (kind : Kind) (b : Before) (place tag : ℕ) (bytes : List ℕ) (rest : Chunks) (parts : List Part) → walk kind b place (chunk tag bytes rest) ≡ fine parts → Next kind b place tag bytes rest parts
-unfolding walk
-next kind b place tag bytes rest parts e =
-    let x = then-fine (located place (judge kind b tag bytes)) _ e in
-    let y = then-fine (walk kind (after b (x .0)) (place + sizeOf 4 (length bytes)) rest) _ (x .2) in
-    record { part = x .0; later = y .0; first = located-fine place (judge kind b tag bytes) (x .1); are = sym (same-fine (y .2)); onward = y .1 }
 
 module _ {of : Part → List ℕ} {kind : Kind} {file table₀ : List ℕ} {at m : ℕ} {table : List ℕ} (f : Filling of kind file table₀ at m table) where
   pub end : length file ≤ at → FilePut of kind file table₀ table
@@ -86,16 +63,16 @@ module _ {of : Part → List ℕ} {kind : Kind} {file table₀ : List ℕ} {at m
       this = next kind (f .before) at tag _ _ (f .more) (rw (front h) at (f .judged))
 
       first-is : judge kind (f .before) tag (drop 8 (take (last - at) (drop at file))) ≡ fine (this .part)
-      first-is = rw (← body h) (this .first)
+      first-is = rw (← body h) (this .here)
 
       whole-list : f .done ++ (this .part ∷ this .later) ≡ f .room .parts
-      whole-list = ap (λ z. f .done ++ z) (sym (this .are)) ∙ f .all
+      whole-list = ap (λ z. f .done ++ z) (this .both) ∙ f .all
 
       fits : m + length (of (this .part)) ≤ length table₀
       unfolding joined
       fits =
           let l : length (made of (f .done ++ (this .part ∷ this .later))) ≡ length (made of (f .room .parts)) = ap (λ z. length (made of z)) whole-list in
-          let j = simp length-append at (rw (made-append of (f .done) (this .part ∷ this .later)) at l) in
+          let j = simp length-append at (rw (joined-map-append of (f .done) (this .part ∷ this .later)) at l) in
           omega (arith, j, f .here, f .room .fits)
 
       pub chunk-room : ChunkRoom of kind tag (take (last - at) (drop at file)) table m
@@ -106,7 +83,7 @@ module _ {of : Part → List ℕ} {kind : Kind} {file table₀ : List ℕ} {at m
       turn {table′} {m′} w =
           let p = w .put (f .before) (this .part) first-is in
           let n = w .next-is (f .before) (this .part) first-is in
-          let one : made of (f .done ++ (this .part ∷ [])) ≡ made of (f .done) ++ of (this .part) = made-append of (f .done) (this .part ∷ []) ∙ ap (λ z. made of (f .done) ++ z) (append-nil (of (this .part))) in
+          let one : made of (f .done ++ (this .part ∷ [])) ≡ made of (f .done) ++ of (this .part) = joined-map-append of (f .done) (this .part ∷ []) ∙ ap (λ z. made of (f .done) ++ z) (append-nil (of (this .part))) in
           let place : m ≡ 0 + length (made of (f .done)) = omega (arith, f .here) in
           let count : length (made of (f .done ++ (this .part ∷ []))) ≡ length (made of (f .done)) + length (of (this .part)) = rw one (length-append (made of (f .done)) (of (this .part))) in
           record {

@@ -2,25 +2,26 @@
 use mathlib.Core.Path.{_≡_, refl, sym, ap, subst, _∙_}
 use mathlib.Core.List.{List, []}
 use mathlib.Core.Bool.{Bool, true, false, not}
-use Prim.Native.Nat.{ℕ, _+_, _-_, _/_, _≤_}
+use Prim.Native.Nat.{ℕ, _+_, _-_, _/_}
 use native.Mathlib.Omega.{arith}
 use native.Mathlib.Nat.{add-zero}
 use lib.ListN.{length, drop, length-drop}
 use Rattle.format.specs.declared.Kind.{Kind}
 use Rattle.format.specs.declared.Kind.the-variants.{LWOB, LWO2}
 use Rattle.format.specs.declared.Fault.the-variants.{OutOfOrder, WrongLength}
-use Rattle.format.specs.Bytes.{if_then_else_, _is_, number, joined, empty}
+use Rattle.format.specs.Bytes.{if_then_else_, _is_, joined, empty}
 use Rattle.format.specs.Items.{Verdict, fine, Reader, whole}
 use Rattle.format.specs.Mesh.{Point}
-use Rattle.format.specs.Bodies.{Part, points, skipped, pointsBody, namesBody, facesBody, patchesBody, polygonsBody, taggingBody, surfaceBody}
+use Rattle.format.specs.Bodies.{Part, points, names, polygons, tagging, surface, skipped, pointsBody}
 use Rattle.format.specs.Rules.{Before, there, when_read_, judge, pointsOf}
-use Rattle.format.specs.Said.{Put}
 use Rattle.format.proofs.Puts.{put-none}
 use Rattle.format.proofs.Verdicts.{then-fine, chosen, same-fine}
 use Rattle.fill.specs.Puts.{PointsPut}
 use Rattle.fill.proofs.Words.{points-length}
-use Rattle.reader.specs.Fills.{pointsIn, ChunkRoom, ChunkPut}
-use Rattle.reader.proofs.Judging.{Makes, makes-give, makes-then, makes-length}
+use Rattle.reader.specs.declared.counts.Counted.{Counted}
+use Rattle.reader.specs.Answers.{countedOf}
+use Rattle.reader.specs.Fills.{pointsIn, ChunkPut}
+use Rattle.reader.proofs.Judging.{Makes, makes-give, makes-then, makes-length, Adds, adds-names, adds-faces, adds-patches, adds-polygons, adds-tagging, adds-surface}
 
 -- ---- what a body makes
 
@@ -87,45 +88,40 @@ none-skipped : Without (λ body. fine skipped)
 unfolding pointsOf joined
 none-skipped = record { each = λ body part j. rw (← same-fine j) refl }
 
-none-names : Makes NoPoints namesBody
-unfolding namesBody pointsOf joined
-none-names = record { each = λ at b. makes-then _ _ _ (λ ns. makes-give _ _ refl) .each at b }
+-- what adds no points to the counts has none
+abbrev countsPoints : Counted → Bool
+countsPoints (Counted.Points n) = true
+countsPoints (Counted.Names n b) = false
+countsPoints (Counted.Polygons z) = false
+countsPoints Counted.Nothing = false
+countsPoints Counted.Skipped = false
 
-module _ (p n : ℕ) where
-  none-faces : Makes NoPoints (facesBody p n)
-  unfolding facesBody pointsOf joined
-  none-faces = makes-then _ _ _ (λ fs. makes-give _ _ refl)
+uncounted : (part : Part) → countsPoints (countedOf part) ≡ false → NoPoints part
+unfolding countedOf pointsOf joined
+uncounted (points ps) e = absurd (let z : _≡_ {A = ℕ} 0 1 = cc in omega arith)
+uncounted (names ns) e = refl
+uncounted (polygons ps n) e = refl
+uncounted (tagging ts) e = refl
+uncounted (surface n vs) e = refl
+uncounted skipped e = refl
 
-  none-patches : Makes NoPoints (patchesBody p n)
-  unfolding patchesBody pointsOf joined
-  none-patches = makes-then _ _ _ (λ ps. makes-give _ _ refl)
-
-  none-tagging : Makes NoPoints (taggingBody p n)
-  unfolding taggingBody pointsOf joined
-  none-tagging = makes-then _ _ _ (λ t. makes-then _ _ _ (λ ts. makes-give _ _ refl))
-
-none-polygons : (p : ℕ) → Makes NoPoints (polygonsBody p)
-unfolding polygonsBody pointsOf joined
-none-polygons p = makes-then _ _ _ (λ t. makes-then _ _ _ (λ ps. makes-give _ _ refl))
-
-none-surface : (kind : Kind) → Makes NoPoints (surfaceBody kind)
-unfolding surfaceBody pointsOf joined
-none-surface kind = makes-then _ _ _ (λ n. makes-then _ _ _ (λ vs. makes-give _ _ refl))
+none-of : {B : Type 0} {f : B → Counted} {h : Part → B} {r : Reader Part} → Adds f h r → ((y : B) → countsPoints (f y) ≡ false) → Makes NoPoints r
+none-of {h = h} a few = record { each = λ at b g e. uncounted (g .value) (ap countsPoints (a .each .each at b g e) ∙ few (h (g .value))) }
 
 without : (kind : Kind) (b : Before) (t : ℕ) → t is "PNTS" ≡ false → Without (judge kind b t)
 unfolding judge
 without LWOB b t e =
     rw e
-    (without-if (t is "SRFS") (without-when _ none-names)
-    (without-if (t is "POLS") (without-when _ (none-faces _ _))
-    (without-if (t is "PCHS") (without-when _ (none-patches _ _))
-    (without-if (t is "SURF") (without-when _ (none-surface LWOB)) none-skipped))))
+    (without-if (t is "SRFS") (without-when _ (none-of adds-names (λ y. refl)))
+    (without-if (t is "POLS") (without-when _ (none-of (adds-faces _ _) (λ y. refl)))
+    (without-if (t is "PCHS") (without-when _ (none-of (adds-patches _ _) (λ y. refl)))
+    (without-if (t is "SURF") (without-when _ (none-of (adds-surface LWOB) (λ y. refl))) none-skipped))))
 without LWO2 b t e =
     rw e
-    (without-if (t is "TAGS") (without-when _ none-names)
-    (without-if (t is "POLS") (without-when _ (none-polygons _))
-    (without-if (t is "PTAG") (without-when _ (none-tagging _ _))
-    (without-if (t is "SURF") (without-when _ (none-surface LWO2)) none-skipped))))
+    (without-if (t is "TAGS") (without-when _ (none-of adds-names (λ y. refl)))
+    (without-if (t is "POLS") (without-when _ (none-of (adds-polygons _) (λ y. refl)))
+    (without-if (t is "PTAG") (without-when _ (none-of (adds-tagging _ _) (λ y. refl)))
+    (without-if (t is "SURF") (without-when _ (none-of (adds-surface LWO2) (λ y. refl))) none-skipped))))
 
 pub chunk-none : {kind : Kind} {t : ℕ} {s table : List ℕ} {m : ℕ} → t is "PNTS" ≡ false → ChunkPut pointsIn kind t s table m table m
 chunk-none {kind} {t} {s} {table} {m} e = record {

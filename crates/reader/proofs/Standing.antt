@@ -1,5 +1,5 @@
 -- A chunk that stands in the file at a place: its body, those after it, where they start, and how many bytes it is lent as. Assumes nothing.
-use mathlib.Core.Path.{_≡_, refl, sym}
+use mathlib.Core.Path.{_≡_, sym}
 use mathlib.Core.List.{List}
 use Prim.Native.Nat.{ℕ, _+_, _-_}
 use native.Mathlib.Omega.{arith}

@@ -1,11 +1,11 @@
 -- What was seen, with one chunk more. Assumes nothing.
-use mathlib.Core.Path.{_≡_, refl, ap}
+use mathlib.Core.Path.{_≡_, ap}
 use mathlib.Core.List.{List}
 use Prim.Native.Nat.{ℕ, _+_, _≤_}
 use native.Mathlib.Omega.{arith}
 use lib.ListN.{length, drop, length-drop}
+use Rattle.format.specs.Items.{_then_}
 use Rattle.format.specs.declared.Kind.{Kind}
-use Rattle.format.specs.Items.{Verdict, fine, fault, _then_}
 use Rattle.format.specs.Rules.{judge}
 use Rattle.format.proofs.Verdicts.{Known, known, stopped}
 use Rattle.wire.specs.declared.Refusal.{Refusal}

@@ -1,5 +1,5 @@
 -- A turn of the walk over a file's chunks, whatever the chunk is. Assumes nothing.
-use mathlib.Core.Path.{_≡_, refl, sym, ap, _∙_}
+use mathlib.Core.Path.{_≡_, sym, ap, _∙_}
 use mathlib.Core.List.{List, _∷_}
 use Prim.Native.Nat.{ℕ, _+_, _-_, _≤_, _<_}
 use native.Mathlib.Omega.{arith}
@@ -8,7 +8,7 @@ use Rattle.format.specs.declared.Kind.{Kind}
 use Rattle.format.specs.declared.Fault.{Fault}
 use Rattle.format.specs.declared.Fault.the-variants.{BadHeader}
 use Rattle.format.specs.Refusals.{placeOf}
-use Rattle.format.specs.Items.{Verdict, fine, fault, Got, _then_}
+use Rattle.format.specs.Items.{Verdict, fine, fault, _then_}
 use Rattle.format.specs.Chunks.{sizeOf, Chunks, chunk, chunks}
 use Rattle.format.specs.Bodies.{Part}
 use Rattle.format.specs.Rules.{Before, start, after, judge, located, walk}

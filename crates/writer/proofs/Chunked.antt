@@ -16,7 +16,8 @@ use Rattle.mesh.proofs.Entries.{part, polygons-past}
 use Rattle.writer.specs.Sizes.{total, Counted, unlessNone, leading, pairsFrom, PolygonsLent}
 use Rattle.writer.proofs.Adding as adding
 use Rattle.writer.proofs.Adding.{Adding}
-use Rattle.writer.proofs.Sized.{total-append, unless-size, polygons-held, by-bytes}
+use Rattle.format.proofs.Puts.{total-append}
+use Rattle.writer.proofs.Sized.{unless-size, polygons-held, by-bytes}
 use Rattle.writer.proofs.Paired.{pairs-are}
 use Rattle.writer.proofs.Running.{surfaces, length-polygons, counts-at, runs-at}
 

@@ -16,7 +16,8 @@ use Rattle.laws.proofs.Form.{length-form}
 use Rattle.mesh.specs.Lent.{lent, column, polygonsOf}
 use Rattle.mesh.proofs.Entries as table
 use Rattle.writer.specs.Sizes.{total, unlessNone, surfacesSize}
-use Rattle.writer.proofs.Sized.{total-append, unless-size, strings-size, name-lengths, surfaces-size}
+use Rattle.format.proofs.Puts.{total-append}
+use Rattle.writer.proofs.Sized.{unless-size, strings-size, name-lengths, surfaces-size}
 
 module _ (points polygons vertices names nameBytes records : List ℕ) (agree : sum names ≡ length nameBytes) where
   abbrev count : ℕ

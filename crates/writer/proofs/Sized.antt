@@ -2,7 +2,7 @@
 use Prim.Native.Nat.{ℕ, suc, _+_, _-_, _*_, _/_, _%_, _<_, _≤_}
 use Prim.Native.String.{String}
 use mathlib.Core.Path.{_≡_, refl, ap, _∙_}
-use mathlib.Core.List.{List, [], _∷_, _++_, map, map-append, append-nil}
+use mathlib.Core.List.{List, [], _∷_, _++_, map, append-nil}
 use mathlib.Core.Bool.{Bool, true, false}
 use native.Mathlib.Omega.{arith}
 use lib.Dec.{eqb}
@@ -15,16 +15,12 @@ use Rattle.format.specs.Chunks.{sizeOf}
 use Rattle.format.specs.Mesh.{Surface, Name, word, polygonSize}
 use Rattle.format.specs.Canonical.{bytes, vxBytes, stringBytes, chunkBytes, polygonBytes, pairBytes, levelBytes, surfaceBytes, unlessEmpty, surfaceChunks, encoded}
 use Rattle.format.specs.Written.{pieces, entries, polygonsFrom, vertexCounts}
-use Rattle.format.proofs.Puts.{joined-append}
+use Rattle.format.proofs.Puts.{total-append}
 use Rattle.laws.proofs.Items.{length-bytes}
 use Rattle.laws.proofs.Bodies.{length-vx}
 use Rattle.mesh.specs.Lent.{polygonsOf}
 use Rattle.mesh.proofs.Entries.{length-entries}
 use Rattle.writer.specs.Sizes.{total, unlessNone, surfacesSize}
-
-pub total-append : {A : Type 0} (f : A → List ℕ) (xs ys : List A) → total f (xs ++ ys) ≡ total f xs + total f ys
-total-append f xs ys =
-    ap (λ (l : List (List ℕ)). length (joined l)) (map-append f xs ys) ∙ ap length (joined-append (map f xs) (map f ys)) ∙ length-append (joined (map f xs)) (joined (map f ys))
 
 -- ---- items
 
