@@ -107,6 +107,11 @@ pub record Tables : Type 0 where
   pub nameBytes : List ℕ
   pub records : List ℕ
 
+-- six lists taken as the tables
+abbrev pub lent : (points polygons vertices names nameBytes records : List ℕ) → Tables
+lent points polygons vertices names nameBytes records =
+    record { points = points; polygons = polygons; vertices = vertices; names = names; nameBytes = nameBytes; records = records }
+
 -- "Vertices: all polygons' point numbers, joined." "Names: a length each, and their bytes joined, no terminators."
 unfoldable pub tables : Mesh → Tables
 tables m = record {

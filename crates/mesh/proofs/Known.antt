@@ -8,10 +8,9 @@ use lib.ListN.{length, length-map}
 use borrow.Author.Tests.{eqb-true}
 use Rattle.format.specs.Bytes.{sum}
 use Rattle.format.specs.Limits.{entryLimit}
-use Rattle.format.specs.Mesh.{pointSize, polygonSize, recordSize, surfaceFrom}
+use Rattle.format.specs.Mesh.{pointSize, polygonSize, recordSize, surfaceFrom, lent}
 use Rattle.format.specs.Written.{entries, vertexCounts, meshFrom, goodMesh, isMesh}
 use Rattle.laws.proofs.Facts.{every-at}
-use Rattle.mesh.specs.Lent.{lent}
 use Rattle.mesh.proofs.Entries.{length-pieces, length-entries}
 use Rattle.mesh.proofs.Decided.{limits}
 

@@ -1,4 +1,4 @@
--- The lent tables in the rule book's words, and the parts of its decision that a function of this crate answers.
+-- Entries and columns of the lent tables, and the parts of its decision that a function of this crate answers.
 use Prim.Native.Nat.{ℕ, _/_, _%_}
 use mathlib.Core.List.{List, [], _∷_, map}
 use mathlib.Core.Bool.{Bool, _&&_}
@@ -9,10 +9,6 @@ use Rattle.format.specs.Limits.{entryLimit}
 use Rattle.format.specs.Mesh.{Polygon, Surface, Name, Tables, pointSize, polygonSize, recordSize, word, surfaceFrom}
 use Rattle.format.specs.Bodies.{newName}
 use Rattle.format.specs.Written.{pieces, entries, polygonsFrom, vertexCounts, wholeEntries, noZero}
-
-abbrev pub lent : (points polygons vertices names nameBytes records : List ℕ) → Tables
-lent points polygons vertices names nameBytes records =
-    record { points = points; polygons = polygons; vertices = vertices; names = names; nameBytes = nameBytes; records = records }
 
 -- the entry of n words that starts at a place
 abbrev pub entryAt : (n at : ℕ) → List ℕ → List ℕ

@@ -1,2 +1,3 @@
 pub mod Answers
 pub mod Fills
+pub mod Reads

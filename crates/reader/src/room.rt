@@ -1,5 +1,6 @@
 // Whether the lent tables have room for what a file needs.
 ghost use mathlib.Core.Path.{_≡_};
+ghost use Rattle.format.specs.Mesh.{lent};
 ghost use Rattle.format.specs.Answer.{fits};
 ghost use Rattle.reader.specs.Answers.{needsIn};
 use crate::counts::Totals;
@@ -14,7 +15,7 @@ pub fn has_room(
     name_bytes: &[u8],
     records: &[u32],
 ) -> bool
-    ensures { λ r. ⌜ r ≡ fits (needsIn t) (record { points = now (points .entry); polygons = now (polygons .entry); vertices = now (vertices .entry); names = now (names .entry); nameBytes = now («name_bytes» .entry); records = now (records .entry) }) ⌝ }
+    ensures { λ r. ⌜ r ≡ fits (needsIn t) (lent (now (points .entry)) (now (polygons .entry)) (now (vertices .entry)) (now (names .entry)) (now («name_bytes» .entry)) (now (records .entry))) ⌝ }
 {
     (t.points <= points.len() / 3)
         & (t.polygons <= polygons.len() / 3)

@@ -6,11 +6,10 @@ use mathlib.Core.Bool.{Bool, true, false, not}
 use lib.ListN.{length}
 use borrow.Author.Tests.{lt-ltb, le-ltb}
 use Rattle.format.specs.Limits.{fileLimit}
-use Rattle.format.specs.Mesh.{Tables}
+use Rattle.format.specs.Mesh.{Tables, lent}
 use Rattle.format.specs.Canonical.{canonical}
 use Rattle.format.specs.Written.{meshFrom, isMesh, says, written}
 use Rattle.format.specs.Refusals.{noRoom, notMesh, tooLong}
-use Rattle.mesh.specs.Lent.{lent}
 use Rattle.mesh.proofs.Passing.{passed, failed}
 
 module _ (points polygons vertices names nameBytes records : List ℕ) (room : ℕ) {b : Bool} (mesh-is : b ≡ isMesh (lent points polygons vertices names nameBytes records)) where

@@ -7,13 +7,13 @@ use lib.ListN.{length, length-map}
 use Rattle.format.specs.declared.Kind.the-variants.{LWO2}
 use Rattle.format.specs.Bytes.{sum, joined}
 use Rattle.format.specs.Items.{stringSize}
-use Rattle.format.specs.Mesh.{pointSize, recordSize, pointFrom, surfaceFrom}
+use Rattle.format.specs.Mesh.{pointSize, recordSize, pointFrom, surfaceFrom, lent}
 use Rattle.format.specs.Canonical.{stringBytes, pointBytes, runs, unlessEmpty, runChunks, surfaceChunks, canonicalChunks, encoded, canonical}
 use Rattle.format.specs.Written.{pieces, entries, meshFrom}
 use Rattle.laws.proofs.Facts.{length-entries}
 use Rattle.laws.proofs.Bodies.{length-point}
 use Rattle.laws.proofs.Form.{length-form}
-use Rattle.mesh.specs.Lent.{lent, column, polygonsOf}
+use Rattle.mesh.specs.Lent.{column, polygonsOf}
 use Rattle.mesh.proofs.Entries as table
 use Rattle.writer.specs.Sizes.{total, unlessNone, surfacesSize}
 use Rattle.format.proofs.Puts.{total-append}

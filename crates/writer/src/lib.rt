@@ -2,9 +2,9 @@
 ghost use mathlib.Core.Path.{_≡_};
 ghost use mathlib.Core.Bool.{true};
 ghost use lib.ListN.{length};
+ghost use Rattle.format.specs.Mesh.{lent};
 ghost use Rattle.format.specs.Canonical.{canonical};
 ghost use Rattle.format.specs.Written.{meshFrom, isMesh, written};
-ghost use Rattle.mesh.specs.Lent.{lent};
 ghost use Rattle.writer.specs.Sizes.{answerAs};
 use crate::lengths::strings_length;
 use crate::lengths::unless_empty;
