@@ -1,8 +1,8 @@
 pub mod Words
 mod Copies
-mod Tags
+pub mod Tags
 mod Missing
-mod Behind
+pub mod Behind
 mod Vertices
 mod OnePolygon
 mod Outlines

@@ -1,9 +1,1 @@
-pub mod Judging
-pub mod Weighing
-pub mod Stepping
-pub mod Tallying
-pub mod Standing
-pub mod Surveying
-pub mod Pointing
-pub mod Filling
-pub mod Forming
+pub mod Answering

@@ -4,8 +4,10 @@ use mathlib.Core.List.{List}
 use Prim.Native.Nat.{ℕ}
 use Rattle.format.specs.Mesh.{Tables}
 use Rattle.format.specs.Rules.{rules}
-use Rattle.format.specs.Answer.{Answer as Answered, answer, tablesAfter}
+use Rattle.format.specs.Answer.{Answer as Answered, noNeeds, answer, tablesAfter}
 use Rattle.reader.specs.declared.Answer.{Answer}
+use Rattle.survey.specs.declared.counts.Totals.{Totals}
+use Rattle.survey.specs.Answers.{needsIn}
 
 abbrev pub answerAs : Answer → Answered
 answerAs a = record {
@@ -15,6 +17,12 @@ answerAs a = record {
   skipped = a .skipped;
   details = a .details;
 }
+
+abbrev pub refusedWith : (number place : ℕ) → Answered
+refusedWith number place = record { number = number; place = place; needs = noNeeds; skipped = 0; details = 0 }
+
+abbrev pub withCounts : (number : ℕ) → Totals → Answered
+withCounts number t = record { number = number; place = 0; needs = needsIn t; skipped = t .skipped; details = t .details }
 
 -- the tables t are lent, and come back as t′
 pub record ReadOf (file : List ℕ) (t : Tables) (a : Answer) (t′ : Tables) : Type 0 where

@@ -1,11 +1,15 @@
 // A file: the first pass judges its chunks in file order and counts; the second puts what they hold into the tables. Every answer is the rule book's.
-pub mod chunk;
-pub mod counts;
-pub mod first;
-pub mod form;
-pub mod points;
+ghost use Rattle.format.specs.Mesh.{lent};
+ghost use Rattle.reader.specs.Reads.{ReadOf};
+use crate::answers::refused;
+use crate::answers::with_counts;
+use crate::room::has_room;
+use survey::first::First;
+use survey::first::first_pass;
+use tables::fill_tables;
+
+pub mod answers;
 pub mod room;
-pub mod survey;
 
 // A number of document 01 (0 accepted) and the place; the five needs, the skipped chunks and the details, which are 0 on every refusal but 16.
 pub struct Answer {
@@ -18,4 +22,47 @@ pub struct Answer {
     pub name_bytes: usize,
     pub skipped: usize,
     pub details: usize,
+}
+
+// Reads a file into the lent tables. Nothing is put into a table before the whole file is judged and every table has room.
+pub fn read(
+    file: &[u8],
+    points: &mut [u32],
+    polygons: &mut [u32],
+    vertices: &mut [u32],
+    names: &mut [u32],
+    name_bytes: &mut [u8],
+    records: &mut [u32],
+) -> Answer
+    ensures { λ r. ⌜ ReadOf (now (file .entry)) (lent (now (points .entry)) (now (polygons .entry)) (now (vertices .entry)) (now (names .entry)) (now («name_bytes» .entry)) (now (records .entry))) r (lent (now (points .exit)) (now (polygons .exit)) (now (vertices .exit)) (now (names .exit)) (now («name_bytes» .exit)) (now (records .exit))) ⌝ }
+{
+    match first_pass(file) {
+        First::Refused(f) => refused(f),
+        First::Counts { kind, totals } => {
+            if has_room(
+                totals,
+                points,
+                polygons,
+                vertices,
+                names,
+                name_bytes,
+                records,
+            ) {
+                fill_tables(
+                    file,
+                    kind,
+                    totals,
+                    points,
+                    polygons,
+                    vertices,
+                    names,
+                    name_bytes,
+                    records,
+                );
+                with_counts(0, totals)
+            } else {
+                with_counts(16, totals)
+            }
+        }
+    }
 }

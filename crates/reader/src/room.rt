@@ -2,8 +2,8 @@
 ghost use mathlib.Core.Path.{_≡_};
 ghost use Rattle.format.specs.Mesh.{lent};
 ghost use Rattle.format.specs.Answer.{fits};
-ghost use Rattle.reader.specs.Answers.{needsIn};
-use crate::counts::Totals;
+ghost use Rattle.survey.specs.Answers.{needsIn};
+use survey::counts::Totals;
 
 // A table of entries of several words is as long as its whole entries. The records need one entry a name.
 pub fn has_room(

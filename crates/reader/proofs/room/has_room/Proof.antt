@@ -6,7 +6,7 @@ use lib.ListN.{length}
 use Rattle.format.specs.Bytes.{every}
 use Rattle.format.specs.Mesh.{Needs, Tables}
 use Rattle.format.specs.Answer.{fits}
-use Rattle.reader.specs.Answers.{needsIn}
+use Rattle.survey.specs.Answers.{needsIn}
 use Rattle.reader.proofs.room.has_room.Statement.{statement}
 use Rattle.reader.proofs.room.has_room.Tie as tie
 

@@ -1,0 +1,94 @@
+-- From the first pass, the test of room and the second pass to the rule book's answer and tables. Assumes nothing.
+use mathlib.Core.Path.{_≡_, refl, sym, ap, _∙_}
+use mathlib.Core.List.{List, map}
+use mathlib.Core.Bool.{Bool, true, false}
+use Prim.Native.Nat.{ℕ, _≤_}
+use native.Mathlib.Omega.{arith}
+use lib.Dec.{ltb}
+use lib.ListN.{length, drop}
+use borrow.Author.Tests.{ltb-false}
+use Rattle.format.specs.declared.Kind.{Kind}
+use Rattle.format.specs.declared.Fault.the-variants.{FileTooLong}
+use Rattle.format.specs.Bytes.{if_then_else_, sum}
+use Rattle.format.specs.Limits.{fileLimit}
+use Rattle.format.specs.Refusals.{numberOf}
+use Rattle.format.specs.Items.{Verdict, fine, fault}
+use Rattle.format.specs.Chunks.{chunks}
+use Rattle.format.specs.Mesh.{Tables}
+use Rattle.format.specs.Bodies.{Part}
+use Rattle.format.specs.Rules.{start, walk, form, judged, meshOf, skippedOf, detailsOf, gives, outcome, rules}
+use Rattle.format.specs.Answer.{fits, answer, tablesAfter}
+use Rattle.format.proofs.Verdicts.{Known, known, stopped, then-fine, passed, same-fine}
+use Rattle.wire.specs.declared.Refusal.{Refusal}
+use Rattle.reader.specs.declared.Answer.{Answer}
+use Rattle.survey.specs.declared.counts.Totals.{Totals}
+use Rattle.survey.specs.declared.first.First.{First}
+use Rattle.survey.specs.Answers.{totalsOf, needsIn, FirstOf}
+use Rattle.tables.specs.Fills.{TablesRoom, TablesPut}
+use Rattle.reader.specs.Reads.{answerAs, refusedWith, withCounts, ReadOf}
+
+abbrev counts : Kind × List Part → Kind × Totals
+counts f = (f .0, totalsOf (f .0) (f .1))
+
+-- a file that has a kind is within the limit
+within : (file : List ℕ) {kind : Kind} → form file ≡ fine kind → length file ≤ fileLimit
+unfolding form
+within file e = ltb-false _ _ (passed (ltb fileLimit (length file)) _ _ _ e .0)
+
+module _ {file : List ℕ} {t : Tables} {a : Answer} where
+  pub read-refused : {f : Refusal} → FirstOf file (First.Refused f) → answerAs a ≡ refusedWith (numberOf (f .why)) (f .at) → ReadOf file t a t
+  unfolding rules outcome answer tablesAfter
+  read-refused w e = let j = stopped (judged file) counts (w .is) in record { answers = e ∙ rw j; leaves = rw j }
+
+module _ {file : List ℕ} {kind : Kind} {totals : Totals} (w : FirstOf file (First.Counts kind totals)) where
+  found : Known (judged file) counts (kind, totals)
+  found = known (judged file) counts (w .is)
+
+  abbrev parts : List Part
+  parts = found .value .1
+
+  kind-is : found .value .0 ≡ kind
+  kind-is = ap (λ z. z .0) (found .shows)
+
+  totals-are : totals ≡ totalsOf kind parts
+  totals-are = sym (ap (λ z. z .1) (found .shows)) ∙ ap (λ k. totalsOf k parts) kind-is
+
+  judged-is : judged file ≡ fine (kind, parts)
+  judged-is = found .is ∙ ap (λ k. fine (k, parts)) kind-is
+
+  -- the rules give a mesh, whose needs and counts are the totals
+  mesh-is : rules file ≡ gives (meshOf kind parts) (sum (map skippedOf parts)) (sum (map detailsOf parts))
+  unfolding rules outcome
+  mesh-is = rw judged-is
+
+  -- its header and its chunks were judged fine
+  few : length file ≤ fileLimit
+  unfolding judged
+  few = within file (then-fine (form file) _ judged-is .1)
+
+  walked : walk kind start 12 (chunks (drop 12 file)) ≡ fine parts
+  unfolding judged
+  walked =
+      let k = then-fine (form file) _ judged-is in
+      let p = then-fine (walk (k .0) start 12 (chunks (drop 12 file))) _ (k .2) in
+      let same : _≡_ {A = Kind × List Part} (k .0, p .0) (kind, parts) = same-fine (p .2) in
+      ap (λ z. walk z start 12 (chunks (drop 12 file))) (sym (ap (λ z. z .0) same)) ∙ p .1 ∙ ap fine (ap (λ z. z .1) same)
+
+  pub tables-room : {t : Tables} {b : Bool} → b ≡ fits (needsIn totals) t → b ≡ true → TablesRoom kind file totals t
+  tables-room e room = record { parts = parts; sound = walked; few = few; counted = totals-are; roomy = sym e ∙ room }
+
+  module _ {t : Tables} {a : Answer} {b : Bool} (e : b ≡ fits (needsIn totals) t) where
+    pub read-accepted : {t′ : Tables} → b ≡ true → TablesPut kind file t t′ → answerAs a ≡ withCounts 0 totals → ReadOf file t a t′
+    unfolding answer tablesAfter totalsOf
+    read-accepted room p says =
+        let roomy : fits (needsIn (totalsOf kind parts)) t ≡ true = ap (λ z. fits (needsIn z) t) (sym totals-are) ∙ sym e ∙ room in
+        record {
+          answers = says ∙ ap (withCounts 0) totals-are ∙ rw (mesh-is, roomy);
+          leaves = p .put parts walked ∙ rw (mesh-is, roomy);
+        }
+
+    pub read-no-room : b ≡ false → answerAs a ≡ withCounts 16 totals → ReadOf file t a t
+    unfolding answer tablesAfter totalsOf
+    read-no-room none says =
+        let short : fits (needsIn (totalsOf kind parts)) t ≡ false = ap (λ z. fits (needsIn z) t) (sym totals-are) ∙ sym e ∙ none in
+        record { answers = says ∙ ap (withCounts 16) totals-are ∙ rw (mesh-is, short); leaves = rw (mesh-is, short) }

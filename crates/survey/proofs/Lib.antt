@@ -1,0 +1,7 @@
+pub mod Judging
+pub mod Weighing
+pub mod Stepping
+pub mod Tallying
+pub mod Standing
+pub mod Surveying
+pub mod Forming

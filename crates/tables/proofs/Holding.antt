@@ -1,0 +1,194 @@
+-- One chunk after those whose polygons stand in the tables. Assumes nothing.
+use mathlib.Core.Path.{_≡_, refl, sym, subst, _∙_}
+use mathlib.Core.List.{List, [], _∷_, map}
+use mathlib.Core.Bool.{true, false}
+use Prim.Native.Nat.{ℕ, _+_, _-_, _*_, _/_, _≤_, _<_, _^_}
+use native.Mathlib.Omega.{arith}
+use lib.ListN.{length, drop, length-append, length-map}
+use Rattle.format.specs.declared.Kind.{Kind}
+use Rattle.format.specs.declared.Kind.the-variants.{LWOB, LWO2}
+use Rattle.format.specs.Bytes.{if_then_else_, _is_, joined}
+use Rattle.format.specs.Items.{fine, Reader, whole}
+use Rattle.format.specs.Mesh.{Point, Polygon, pointWords, polygonSize}
+use Rattle.format.specs.Bodies.{Part, names, tagging, skipped, namesBody, taggingBody, surfaceBody}
+use Rattle.format.specs.Rules.{Before, after, count, when_read_, judge, from, pointsOf}
+use Rattle.format.proofs.Puts.{total-append}
+use Rattle.fill.specs.declared.entries.Ends.{Ends}
+use Rattle.fill.specs.Polygons as fill
+use Rattle.fill.specs.Taggings.{TagsRoom, TagsPut}
+use Rattle.tables.specs.declared.polygons.Latest.{Latest}
+use Rattle.tables.specs.Held.{Held, heldPolygons, heldAfter, withPoints, withNames, withPolygons, Stands, PartRoom, PartPut}
+use Rattle.survey.proofs.Judging.{Makes, makes-give, makes-then}
+use Rattle.survey.proofs.Tallying.{tagged-alike}
+use Rattle.tables.proofs.Pointing.{PointsOf, points-of, chunk-length}
+use Rattle.tables.proofs.Parts.{Each, each-when, each-if, each-skipped, Made, polygonsFrom, Holds}
+use Rattle.tables.proofs.Placing.{vertices-from, same-length, placed-more, placed-tagged}
+
+-- ---- chunks without points, names, polygons and tags
+
+abbrev Idle : Part → Type 0
+Idle part = (h : Held) → heldAfter h part ≡ h
+
+idle-surface : (kind : Kind) → Makes Idle (surfaceBody kind)
+unfolding surfaceBody heldAfter
+idle-surface kind = makes-then Idle _ _ (λ n. makes-then Idle _ _ (λ vs. makes-give Idle _ (λ h. refl)))
+
+-- a SURF, or an unlisted tag
+idle-rest : (kind : Kind) (t : ℕ) → Each Idle (if t is "SURF" then when true read surfaceBody kind else (λ body. fine skipped))
+unfolding heldAfter
+idle-rest kind t = each-if (t is "SURF") (each-when true (λ yes. idle-surface kind)) (each-skipped (λ h. refl))
+
+module _ (b : Before) (t : ℕ) (not-points : t is "PNTS" ≡ false) (not-polygons : t is "POLS" ≡ false) where
+  pub lwob-rest : t is "SRFS" ≡ false → t is "PCHS" ≡ false → Each Idle (judge LWOB b t)
+  unfolding judge
+  lwob-rest not-names not-patches = rw (not-points, not-names, not-polygons, not-patches) (idle-rest LWOB t)
+
+  pub lwo2-rest : t is "TAGS" ≡ false → t is "PTAG" ≡ false → Each Idle (judge LWO2 b t)
+  unfolding judge
+  lwo2-rest not-names not-tags = rw (not-points, not-names, not-polygons, not-tags) (idle-rest LWO2 t)
+
+-- ---- one chunk
+
+points-words : (ps : List Point) → length (joined (map pointWords ps)) ≡ length ps * 3
+unfolding joined
+points-words [] = refl
+points-words (p ∷ ps) = omega (arith, points-words ps)
+
+module _ {kind : Kind} {t : ℕ} {s : List ℕ} {nameCount : ℕ} {l : Latest} {words vertices : List ℕ} where
+  pub nothing-new : ((b : Before) → Each Idle (judge kind b t)) → PartPut kind t s nameCount l words words vertices vertices l
+  nothing-new idle = record {
+    put = λ r. subst (λ h. Stands h l (r .words₀) words (r .vertices₀) vertices) (sym (idle (r .held .before) .each (drop 8 s) (r .part) (r .sound) (r .held))) (r .stands);
+  }
+
+  -- points
+  module _ (e : t is "PNTS" ≡ true) where
+    points-in : (r : PartRoom kind t s nameCount l words vertices) → PointsOf kind (drop 8 s) (r .part)
+    points-in r = points-of kind (r .held .before) t (drop 8 s) (r .part) e (r .sound)
+
+    pub points-fit : PartRoom kind t s nameCount l words vertices → l .base + l .points < 2 ^ 32
+    unfolding heldAfter after
+    points-fit r = omega (arith, rw (points-in r .all-points) at (r .few), r .stands .base-is, r .stands .points-are)
+
+    pub points-put : {l′ : Latest} → l′ ≡ withPoints l ((length s - 8) / 12) → PartPut kind t s nameCount l words words vertices vertices l′
+    unfolding heldAfter after pointsOf
+    points-put same = record {
+      put = λ r.
+          let p = points-in r in
+          let w = r .stands in
+          let size = rw (p .all-points) at (chunk-length kind (r .held .before) t s (r .part) e (r .sound)) in
+          rw (p .all-points, same)
+          (record {
+            base-is = omega (arith, w .base-is, w .points-are);
+            points-are = omega (arith, size, points-words (p .listed));
+            names-are = w .names-are;
+            polygons-are = w .polygons-are;
+            placed = w .placed;
+          });
+    }
+
+  -- names
+  pub names-put : Holds names (λ b. namesBody) kind t → {l′ : Latest} → l′ ≡ withNames l nameCount → PartPut kind t s nameCount l words words vertices vertices l′
+  unfolding heldAfter after
+  names-put holds same = record {
+    put = λ r.
+        let p = holds .each (r .held .before) (drop 8 s) (r .part) (r .sound) in
+        let w = r .stands in
+        let all = rw (p .part-is) at (r .all-names) in
+        rw (p .part-is, same)
+        (record {
+          base-is = w .base-is;
+          points-are = w .points-are;
+          names-are = sym (all (length (p .of)) refl);
+          polygons-are = w .polygons-are;
+          placed = w .placed;
+        });
+  }
+
+  -- polygons, whose body is judged by the latest points and the names so far
+  module _ (body : (points names : ℕ) → Reader Part) (holds : Holds polygonsFrom (λ b. body (count (b .points)) (count (b .names))) kind t) where
+    polygons-in : (r : PartRoom kind t s nameCount l words vertices) → Made polygonsFrom (body (l .points) (l .names)) (drop 8 s) (r .part)
+    polygons-in r = rw (r .stands .points-are, r .stands .names-are) (holds .each (r .held .before) (drop 8 s) (r .part) (r .sound))
+
+    words-fit : (r : PartRoom kind t s nameCount l words vertices) → l .end + length (polygons-in r .of .0) * polygonSize ≤ length words
+    unfolding heldAfter
+    words-fit r =
+        let ps = polygons-in r .of .0 in
+        let w = r .stands .placed in
+        let new = map (from (r .held .base)) ps in
+        let old = length-append (r .held .earlier) (r .held .latest) in
+        omega (arith, rw (polygons-in r .part-is) at (r .words-fit), w .start-is, w .end-is, old, length-append (heldPolygons (r .held)) new, length-map ps (from (r .held .base)))
+
+    vertices-fit : (r : PartRoom kind t s nameCount l words vertices) → l .last + fill.vertexCount (polygons-in r .of .0) ≤ length vertices
+    unfolding heldAfter
+    vertices-fit r =
+        let ps = polygons-in r .of .0 in
+        let new = map (from (r .held .base)) ps in
+        let both = total-append (λ (p : Polygon). p .vertices) (heldPolygons (r .held)) new in
+        omega (arith, rw (polygons-in r .part-is) at (r .vertices-fit), r .stands .placed .last-is, both, vertices-from (r .held .base) ps)
+
+    pub polygons-room : PartRoom kind t s nameCount l words vertices → fill.PolygonsRoom (body (l .points) (l .names)) (l .points) (l .base) s 8 words (l .end) vertices (l .last)
+    unfolding heldAfter after
+    polygons-room r =
+        let p = polygons-in r in
+        record {
+          listed = p .of .0;
+          details = p .of .1;
+          sound = p .sound;
+          words-fit = words-fit r;
+          vertices-fit = vertices-fit r;
+          small = omega (arith, rw (p .part-is) at (r .few), r .stands .base-is, r .stands .points-are);
+        }
+
+    pub polygons-put : {words′ vertices′ : List ℕ} {ends : Ends} {l′ : Latest} → fill.PolygonsPut (body (l .points) (l .names)) (l .base) s 8 words (l .end) words′ vertices (l .last) vertices′ ends → l′ ≡ withPolygons l ends
+        → PartPut kind t s nameCount l words words′ vertices vertices′ l′
+    unfolding heldAfter after
+    polygons-put {words′} {vertices′} {ends} q same = record {
+      put = λ r.
+          let p = polygons-in r in
+          let ps = p .of .0 in
+          let w = r .stands in
+          let new = subst (λ base. fill.Standing base ps words (l .end) words′ vertices (l .last) vertices′ ends) (w .base-is) (q .put ps (p .of .1) (p .sound)) in
+          rw (p .part-is, same)
+          (record {
+            base-is = w .base-is;
+            points-are = w .points-are;
+            names-are = w .names-are;
+            polygons-are = length-map ps (from (r .held .base));
+            placed = placed-more (w .placed) ps new (words-fit r) (vertices-fit r);
+          });
+    }
+
+  -- tags
+  module _ (holds : Holds tagging (λ b. taggingBody (count (b .polygons)) (count (b .names))) kind t) where
+    -- the latest polygons stand from the one index to the other
+    latest-count : (r : PartRoom kind t s nameCount l words vertices) → (l .end - l .start) / 3 ≡ length (r .held .latest)
+    latest-count r = omega (arith, r .stands .placed .end-is)
+
+    tags-in : (r : PartRoom kind t s nameCount l words vertices) → Made tagging (taggingBody (length (r .held .latest)) (l .names)) (drop 8 s) (r .part)
+    tags-in r = rw (r .stands .polygons-are, r .stands .names-are) (holds .each (r .held .before) (drop 8 s) (r .part) (r .sound))
+
+    latest-fits : (r : PartRoom kind t s nameCount l words vertices) → l .start + length (r .held .latest) * polygonSize ≤ length words
+    unfolding heldAfter
+    latest-fits r =
+        let ts = tags-in r .of in
+        let same = same-length (r .held .earlier) (r .held .latest) ts in
+        omega (arith, rw (tags-in r .part-is) at (r .words-fit), r .stands .placed .start-is, same, length-append (r .held .earlier) (r .held .latest))
+
+    pub tags-room : PartRoom kind t s nameCount l words vertices → TagsRoom (whole 0 (taggingBody ((l .end - l .start) / 3) (l .names)) 8 (drop 8 s)) ((l .end - l .start) / 3) words (l .start)
+    tags-room r = rw (latest-count r) (record { listed = tags-in r .of; sound = tags-in r .sound; fits = latest-fits r })
+
+    pub tags-put : {words′ : List ℕ} → TagsPut (whole 0 (taggingBody ((l .end - l .start) / 3) (l .names)) 8 (drop 8 s)) ((l .end - l .start) / 3) words (l .start) words′ → PartPut kind t s nameCount l words words′ vertices vertices l
+    unfolding heldAfter
+    tags-put q = record {
+      put = λ r.
+          let p = tags-in r in
+          let w = r .stands in
+          rw (p .part-is)
+          (record {
+            base-is = w .base-is;
+            points-are = w .points-are;
+            names-are = w .names-are;
+            polygons-are = tagged-alike (p .of) (r .held .latest) .polygons ∙ w .polygons-are;
+            placed = placed-tagged (w .placed) (p .of) (rw (latest-count r) at q) (p .sound) (latest-fits r);
+          });
+    }

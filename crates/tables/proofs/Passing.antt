@@ -1,0 +1,70 @@
+-- The walk over the chunks of a file that was judged fine, whatever is done with them. Assumes nothing.
+use mathlib.Core.Path.{_≡_, refl, sym, ap, _∙_}
+use mathlib.Core.List.{List, [], _∷_, _++_, append-assoc, append-nil}
+use Prim.Native.Nat.{ℕ, _-_, _≤_, _<_}
+use native.Mathlib.Omega.{arith}
+use lib.ListN.{length, take, drop, length-drop, drop-of-length-le}
+use Rattle.format.specs.declared.Kind.{Kind}
+use Rattle.format.specs.Items.{fine}
+use Rattle.format.specs.Chunks.{chunks}
+use Rattle.format.specs.Bodies.{Part}
+use Rattle.format.specs.Rules.{Before, start, after, judge, walk}
+use Rattle.format.proofs.Saying.{exactly}
+use Rattle.format.proofs.Verdicts.{same-fine}
+use Rattle.format.proofs.Walks.{next}
+use Rattle.format.proofs.Tiling.{none, no-chunk}
+use Rattle.wire.specs.declared.cursor.Cursor.{Cursor}
+use Rattle.wire.specs.declared.header.Header.{Header}
+use Rattle.wire.specs.Answers.{HeaderAt}
+use Rattle.survey.proofs.Standing.{body, front, size}
+
+-- of the file's parts, `done` were passed, and those that follow are judged from here on
+pub record Walking (kind : Kind) (file : List ℕ) (parts done : List Part) (at : ℕ) : Type 0 where
+  pub more : List Part
+  pub all : done ++ more ≡ parts
+  pub before : Before
+  pub judged : walk kind before at (chunks (drop at file)) ≡ fine more
+
+pub begin : {kind : Kind} {file : List ℕ} {parts : List Part} → walk kind start 12 (chunks (drop 12 file)) ≡ fine parts → Walking kind file parts [] 12
+begin {parts = parts} e = record { more = parts; all = refl; before = start; judged = e }
+
+module _ {kind : Kind} {file : List ℕ} {parts done : List Part} {at : ℕ} (w : Walking kind file parts done at) where
+  pub end : length file ≤ at → done ≡ parts
+  unfolding walk
+  end h =
+      let nothing : w .more ≡ [] = sym (same-fine (rw (drop-of-length-le file {i = at} h, none) at (w .judged))) in
+      sym (append-nil done) ∙ ap (λ z. done ++ z) (sym nothing) ∙ w .all
+
+  pub never-bad : at < length file → HeaderAt 4 file at Header.Bad → ⊥
+  unfolding walk
+  never-bad some h =
+      let long : 0 < length (drop at file) = rw (length-drop at file) (omega arith) in
+      let z : _≡_ {A = ℕ} 0 1 = cc (rw (no-chunk at (drop at file) long (exactly (h .reads .says))) at (w .judged)) in
+      omega arith
+
+  -- the chunk `s` of a turn, after which the next one starts at `onto`
+  pub record Turn (tag : ℕ) (s : List ℕ) (onto : ℕ) : Type 0 where
+    pub part : Part
+    pub later : List Part
+    pub here : judge kind (w .before) tag (drop 8 s) ≡ fine part
+    pub both : done ++ (part ∷ later) ≡ parts
+    pub onward : walk kind (after (w .before) part) onto (chunks (drop onto file)) ≡ fine later
+
+  pub turn : {tag last : ℕ} {c : Cursor} → HeaderAt 4 file at (Header.Got tag last c) → Turn tag (take (last - at) (drop at file)) (c .at)
+  turn {tag} {last} {c} h =
+      let this = next kind (w .before) at tag _ _ (w .more) (rw (front h) at (w .judged)) in
+      record {
+        part = this .part;
+        later = this .later;
+        here = rw (← body h) (this .here);
+        both = ap (λ z. done ++ z) (this .both) ∙ w .all;
+        onward = ap (λ k. walk kind (after (w .before) (this .part)) k (chunks (drop (c .at) file))) (sym (size h)) ∙ this .onward;
+      }
+
+  pub walked : {tag : ℕ} {s : List ℕ} {onto : ℕ} (t : Turn tag s onto) → Walking kind file parts (done ++ (t .part ∷ [])) onto
+  walked t = record {
+    more = t .later;
+    all = append-assoc done (t .part ∷ []) (t .later) ∙ t .both;
+    before = after (w .before) (t .part);
+    judged = t .onward;
+  }

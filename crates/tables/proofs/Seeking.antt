@@ -1,0 +1,172 @@
+-- The walk up to the chunk that holds the names. Assumes nothing.
+use mathlib.Core.Path.{_≡_, refl, sym, ap, subst, _∙_}
+use mathlib.Core.List.{List, [], _∷_, _++_, map, map-append, append-nil}
+use mathlib.Core.Bool.{true, false, not}
+use Prim.Native.Nat.{ℕ, _≤_}
+use native.Mathlib.Omega.{arith}
+use lib.ListN.{length, drop, length-map}
+use borrow.Author.Tests.{eqb-true}
+use Rattle.format.specs.declared.Kind.{Kind}
+use Rattle.format.specs.declared.Kind.the-variants.{LWOB, LWO2}
+use Rattle.format.specs.declared.Fault.the-variants.{OutOfOrder}
+use Rattle.format.specs.Bytes.{number, joined}
+use Rattle.format.specs.Items.{fine, whole}
+use Rattle.format.specs.Chunks.{chunks}
+use Rattle.format.specs.Mesh.{Name}
+use Rattle.format.specs.Bodies.{Part, names, namesBody}
+use Rattle.format.specs.Rules.{Before, start, after, there, when_read_, judge, walk, namesOf}
+use Rattle.format.specs.Said.{Put}
+use Rattle.format.proofs.Puts.{joined-append, joined-map-append, put-none}
+use Rattle.format.proofs.Verdicts.{chosen, same-fine}
+use Rattle.fill.specs.Puts.{NamesRoom, NamesPut}
+use Rattle.tables.specs.Fills.{lengthsIn, bytesIn, allNames, FileRoom, FilePut}
+use Rattle.tables.specs.Listed.{namesTag}
+use Rattle.tables.proofs.Making.{makes-whole, makes-names, always}
+use Rattle.tables.proofs.Once.{no-more-names}
+use Rattle.tables.proofs.Passing.{Walking, Turn, begin, end, walked}
+
+-- ---- a chunk of names, and any other
+
+pub record NamesOf (body : List ℕ) (part : Part) : Type 0 where
+  pub listed : List Name
+  pub all-names : part ≡ names listed
+  pub sound : whole 0 namesBody 8 body ≡ fine (names listed)
+
+from-whole : {body : List ℕ} {part : Part} → whole 0 namesBody 8 body ≡ fine part → NamesOf body part
+from-whole {body} w =
+    let P : Part → Type 0 = λ part. (ns : List Name) × (part ≡ names ns) in
+    let p = makes-whole P (makes-names P (λ ns. (ns, refl))) body w in
+    record { listed = p .0; all-names = p .1; sound = rw (← p .1) w }
+
+names-of : (kind : Kind) (b : Before) (t : ℕ) (body : List ℕ) (part : Part) → namesTag kind t ≡ true → judge kind b t body ≡ fine part → NamesOf body part
+unfolding judge when_read_ number
+names-of LWOB b t body part e j = from-whole (chosen (not (there (b .names))) (whole 0 namesBody 8 body) OutOfOrder 0 (subst (λ t. judge LWOB b t body ≡ fine part) (eqb-true t _ e) j) .1)
+names-of LWO2 b t body part e j = from-whole (chosen (not (there (b .names))) (whole 0 namesBody 8 body) OutOfOrder 0 (subst (λ t. judge LWO2 b t body ≡ fine part) (eqb-true t _ e) j) .1)
+
+no-names : (kind : Kind) (b : Before) (t : ℕ) (body : List ℕ) (part : Part) → namesTag kind t ≡ false → judge kind b t body ≡ fine part → namesOf part ≡ []
+unfolding namesOf
+no-names kind b t body part other j =
+    always (λ part. namesOf part ≡ []) kind b t
+    (record {
+      of-points = λ e ps. refl;
+      of-names = λ e missing ns. absurd (let z : _≡_ {A = ℕ} 0 1 = cc (sym e ∙ other) in omega arith);
+      of-polygons = λ ps n. refl;
+      of-tagging = λ ts. refl;
+      of-surface = λ e n vs. refl;
+      of-skipped = refl;
+    })
+    .each body part j
+
+-- ---- what the tables are for
+
+made-lengths : (parts : List Part) → joined (map lengthsIn parts) ≡ map length (allNames parts)
+unfolding joined
+made-lengths [] = refl
+made-lengths (p ∷ ps) = rw (made-lengths ps) (sym (map-append length (namesOf p) (allNames ps)))
+
+made-bytes : (parts : List Part) → joined (map bytesIn parts) ≡ joined (allNames parts)
+unfolding joined
+made-bytes [] = refl
+made-bytes (p ∷ ps) = rw (made-bytes ps) (sym (joined-append (namesOf p) (allNames ps)))
+
+-- the names of the file, which its two tables have room for
+pub record Rooms (kind : Kind) (file lengths bytes : List ℕ) : Type 0 where
+  pub lengths-room : FileRoom lengthsIn kind file lengths
+  pub bytes-room : FileRoom bytesIn kind file bytes
+
+module _ {kind : Kind} {file lengths bytes : List ℕ} (r : Rooms kind file lengths bytes) {parts : List Part} (sound : walk kind start 12 (chunks (drop 12 file)) ≡ fine parts) where
+  lengths-fit : length (allNames parts) ≤ length lengths
+  lengths-fit =
+      let same : r .lengths-room .parts ≡ parts = same-fine (sym (r .lengths-room .sound) ∙ sound) in
+      let all = rw (same, made-lengths parts) at (r .lengths-room .fits) in
+      omega (arith, all, length-map (allNames parts) length)
+
+  bytes-fit : length (joined (allNames parts)) ≤ length bytes
+  bytes-fit =
+      let same : r .bytes-room .parts ≡ parts = same-fine (sym (r .bytes-room .sound) ∙ sound) in
+      rw (same, made-bytes parts) at (r .bytes-room .fits)
+
+  -- from tables that are still as they were
+  puts : {ns : List Name} → allNames parts ≡ ns → {lengths₁ bytes₁ lengths′ bytes′ : List ℕ} → lengths₁ ≡ lengths → bytes₁ ≡ bytes → Put lengths₁ 0 (map length ns) lengths′ → Put bytes₁ 0 (joined ns) bytes′
+      → FilePut lengthsIn kind file lengths lengths′ × FilePut bytesIn kind file bytes bytes′
+  puts are same-lengths same-bytes p q = (
+    record { put = λ all e. rw (same-fine (sym e ∙ sound), made-lengths parts, are, ← same-lengths) p },
+    record { put = λ all e. rw (same-fine (sym e ∙ sound), made-bytes parts, are, ← same-bytes) q },
+  )
+
+-- ---- the walk
+
+-- one part of all is the names
+only-these : (done later : List Part) {part : Part} {ns : List Name} → allNames done ≡ [] → part ≡ names ns → allNames later ≡ [] → allNames (done ++ (part ∷ later)) ≡ ns
+unfolding joined namesOf
+only-these done later {part} {ns} none-before is none-after = joined-map-append namesOf done (part ∷ later) ∙ rw (none-before, is, none-after) (append-nil ns)
+
+-- no chunk up to here held names, and the tables are as they were
+pub record Seeking (kind : Kind) (file lengths₀ bytes₀ : List ℕ) (at : ℕ) (lengths bytes : List ℕ) : Type 0 where
+  pub rooms : Rooms kind file lengths₀ bytes₀
+  pub parts : List Part
+  pub sound : walk kind start 12 (chunks (drop 12 file)) ≡ fine parts
+  pub done : List Part
+  pub walking : Walking kind file parts done at
+  pub none-yet : allNames done ≡ []
+  pub same-lengths : lengths ≡ lengths₀
+  pub same-bytes : bytes ≡ bytes₀
+
+pub seek : {kind : Kind} {file lengths bytes : List ℕ} → FileRoom lengthsIn kind file lengths × FileRoom bytesIn kind file bytes → Seeking kind file lengths bytes 12 lengths bytes
+unfolding joined
+seek r = record {
+  rooms = record { lengths-room = r .0; bytes-room = r .1 };
+  parts = r .0 .parts;
+  sound = r .0 .sound;
+  done = [];
+  walking = begin (r .0 .sound);
+  none-yet = refl;
+  same-lengths = refl;
+  same-bytes = refl;
+}
+
+module _ {kind : Kind} {file lengths₀ bytes₀ : List ℕ} {at : ℕ} {lengths bytes : List ℕ} (k : Seeking kind file lengths₀ bytes₀ at lengths bytes) where
+  pub unlisted : length file ≤ at → FilePut lengthsIn kind file lengths₀ lengths × FilePut bytesIn kind file bytes₀ bytes
+  unfolding joined
+  unlisted h =
+      let nothing : allNames (k .parts) ≡ [] = ap allNames (sym (end (k .walking) h)) ∙ k .none-yet in
+      puts (k .rooms) (k .sound) nothing (k .same-lengths) (k .same-bytes) (put-none lengths 0) (put-none bytes 0)
+
+  module _ {tag onto : ℕ} {s : List ℕ} (t : Turn (k .walking) tag s onto) where
+    pub other : namesTag kind tag ≡ false → Seeking kind file lengths₀ bytes₀ onto lengths bytes
+    unfolding joined
+    other e =
+        let nothing : namesOf (t .part) ≡ [] = no-names kind (k .walking .before) tag (drop 8 s) (t .part) e (t .here) in
+        record {
+          rooms = k .rooms;
+          parts = k .parts;
+          sound = k .sound;
+          done = k .done ++ (t .part ∷ []);
+          walking = walked (k .walking) t;
+          none-yet = joined-map-append namesOf (k .done) (t .part ∷ []) ∙ rw (k .none-yet, nothing);
+          same-lengths = k .same-lengths;
+          same-bytes = k .same-bytes;
+        }
+
+    module _ (e : namesTag kind tag ≡ true) where
+      this : NamesOf (drop 8 s) (t .part)
+      this = names-of kind (k .walking .before) tag (drop 8 s) (t .part) e (t .here)
+
+      all-of-them : allNames (k .parts) ≡ this .listed
+      unfolding after
+      all-of-them =
+          let b = k .walking .before in
+          let onward = subst (λ part. walk kind (after b part) onto (chunks (drop onto file)) ≡ fine (t .later)) (this .all-names) (t .onward) in
+          let none-after : allNames (t .later) ≡ [] = no-more-names kind (after b (names (this .listed))) (length (this .listed)) onto (chunks (drop onto file)) (t .later) refl onward in
+          ap allNames (sym (t .both)) ∙ only-these (k .done) (t .later) (k .none-yet) (this .all-names) none-after
+
+      pub names-room : NamesRoom s lengths 0 bytes 0
+      names-room = record {
+        listed = this .listed;
+        sound = this .sound;
+        lengths-fit = omega (arith, ap length all-of-them, ap length (k .same-lengths), lengths-fit (k .rooms) (k .sound));
+        bytes-fit = omega (arith, ap (λ ns. length (joined ns)) all-of-them, ap length (k .same-bytes), bytes-fit (k .rooms) (k .sound));
+      }
+
+      pub found : {lengths′ bytes′ : List ℕ} → NamesPut s lengths 0 lengths′ bytes 0 bytes′ → FilePut lengthsIn kind file lengths₀ lengths′ × FilePut bytesIn kind file bytes₀ bytes′
+      found p = puts (k .rooms) (k .sound) all-of-them (k .same-lengths) (k .same-bytes) (p .put-lengths (this .listed) (this .sound)) (p .put-bytes (this .listed) (this .sound))

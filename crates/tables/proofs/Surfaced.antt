@@ -1,0 +1,124 @@
+-- A SURF that was judged fine is its name and values, and no other chunk has any. Assumes nothing.
+use mathlib.Core.Path.{_≡_, refl, sym, ap, subst, _∙_}
+use mathlib.Core.List.{List, []}
+use mathlib.Core.Bool.{true, false}
+use Prim.Native.Nat.{ℕ, _+_, _-_, _≤_}
+use native.Mathlib.Omega.{arith}
+use lib.ListN.{length, take, drop, length-take, length-drop}
+use borrow.Author.Tests.{eqb-true}
+use Rattle.format.specs.declared.Kind.{Kind}
+use Rattle.format.specs.declared.Kind.the-variants.{LWOB, LWO2}
+use Rattle.format.specs.declared.Fault.the-variants.{WrongLength}
+use Rattle.format.specs.Bytes.{_is_, number, empty}
+use Rattle.format.specs.Items.{fine, Got, whole, _>>=_, many, string}
+use Rattle.format.specs.Chunks.{sub}
+use Rattle.format.specs.Mesh.{Name}
+use Rattle.format.specs.Surfaces.{Value, valueOf}
+use Rattle.format.specs.Bodies.{Part, surface, surfaceName, surfaceBody}
+use Rattle.format.specs.Rules.{Before, when_read_, judge, surfacesOf}
+use Rattle.format.specs.Written.{pieces}
+use Rattle.format.proofs.Saying.{exactly}
+use Rattle.format.proofs.Verdicts.{then-fine, chosen, same-fine}
+use Rattle.wire.specs.declared.cursor.Cursor.{Cursor}
+use Rattle.wire.specs.declared.cursor.Text.{Text}
+use Rattle.wire.specs.Answers.{TextAt}
+use Rattle.surface.specs.declared.record.Record.{Record}
+use Rattle.surface.specs.Records.{surfaceOf, RecordAt}
+use Rattle.tables.specs.Listed.{withRecord, SurfacesPut}
+use Rattle.tables.proofs.Making.{makes-whole, makes-surface, always}
+use Rattle.tables.proofs.Indexed.{part}
+
+-- ---- the name that a SURF body starts with
+
+same-name : {n m : Name} {vs ws : List Value} → surface n vs ≡ surface m ws → n ≡ m
+same-name e = cc
+
+-- the first string of a body
+record Starts (body : List ℕ) (name : Name) : Type 0 where
+  pub got : Got Name
+  pub reads : string 8 body ≡ fine got
+  pub value-is : got .value ≡ name
+
+starts-name : (kind : Kind) (body : List ℕ) (g : Got Name) → surfaceName kind 8 body ≡ fine g → Starts body (g .value)
+unfolding surfaceName _>>=_
+starts-name LWOB body g e = record { got = g; reads = e; value-is = refl }
+starts-name LWO2 body g e =
+    let x = then-fine (string 8 body) _ e in
+    let y = then-fine (string (x .0 .next) (x .0 .left)) _ (x .2) in
+    record { got = x .0; reads = x .1; value-is = ap (λ h. h .value) (same-fine (y .2)) }
+
+starts : (kind : Kind) (body : List ℕ) {name : Name} {values : List Value} → whole 0 (surfaceBody kind) 8 body ≡ fine (surface name values) → Starts body name
+unfolding whole surfaceBody _>>=_
+starts kind body e =
+    let x = then-fine (surfaceBody kind 8 body) _ e in
+    let y = same-fine (chosen (empty (x .0 .left)) (fine (x .0 .value)) WrongLength 0 (x .2) .1) in
+    let n = then-fine (surfaceName kind 8 body) _ (x .1) in
+    let v = then-fine (many (sub (valueOf kind)) (n .0 .next) (n .0 .left)) _ (n .2) in
+    let name-is = same-name (ap (λ g. g .value) (same-fine (v .2)) ∙ y) in
+    let s = starts-name kind body (n .0) (n .1) in
+    record { got = s .got; reads = s .reads; value-is = s .value-is ∙ name-is }
+
+module _ {s : List ℕ} {n : ℕ} {c : Cursor} (w : TextAt s 8 (Text.Got n c)) where
+  pub name-inside : 8 + n ≤ length s
+  name-inside = let m = simp (length-take, length-drop) at (w .reads .moves) in omega (arith, m, w .inside)
+
+  name-is : {name : Name} → Starts (drop 8 s) name → take (8 + n - 8) (drop 8 s) ≡ name
+  name-is y = part 8 n s ∙ ap (λ g. g .value) (same-fine (sym (exactly (w .reads .says)) ∙ y .reads)) ∙ y .value-is
+
+-- ---- a chunk
+
+record SurfaceOf (kind : Kind) (body : List ℕ) (part : Part) : Type 0 where
+  name : Name
+  values : List Value
+  all : part ≡ surface name values
+  sound : whole 0 (surfaceBody kind) 8 body ≡ fine (surface name values)
+
+from-whole : (kind : Kind) {body : List ℕ} {part : Part} → whole 0 (surfaceBody kind) 8 body ≡ fine part → SurfaceOf kind body part
+from-whole kind {body} w =
+    let P : Part → Type 0 = λ part. (n : Name) × (vs : List Value) × (part ≡ surface n vs) in
+    let p = makes-whole P (makes-surface P kind (λ n vs. (n, vs, refl))) body w in
+    record { name = p .0; values = p .1; all = p .2; sound = rw (← p .2) w }
+
+surface-of : (kind : Kind) (b : Before) (t : ℕ) (body : List ℕ) (part : Part) → t is "SURF" ≡ true → judge kind b t body ≡ fine part → SurfaceOf kind body part
+unfolding judge when_read_ number
+surface-of LWOB b t body part e j = from-whole LWOB (subst (λ t. judge LWOB b t body ≡ fine part) (eqb-true t _ e) j)
+surface-of LWO2 b t body part e j = from-whole LWO2 (subst (λ t. judge LWO2 b t body ≡ fine part) (eqb-true t _ e) j)
+
+no-surfaces : (kind : Kind) (b : Before) (t : ℕ) (body : List ℕ) (part : Part) → t is "SURF" ≡ false → judge kind b t body ≡ fine part → surfacesOf part ≡ []
+unfolding surfacesOf
+no-surfaces kind b t body part other j =
+    always (λ part. surfacesOf part ≡ []) kind b t
+    (record {
+      of-points = λ e ps. refl;
+      of-names = λ e missing ns. refl;
+      of-polygons = λ ps n. refl;
+      of-tagging = λ ts. refl;
+      of-surface = λ e n vs. absurd (let z : _≡_ {A = ℕ} 0 1 = cc (sym e ∙ other) in omega arith);
+      of-skipped = refl;
+    })
+    .each body part j
+
+-- ---- what is put
+
+module _ {kind : Kind} {t : ℕ} {s lengths bytes records : List ℕ} where
+  pub put-nothing : t is "SURF" ≡ false → SurfacesPut kind t s lengths bytes records records
+  put-nothing e = record { put = λ b part j. rw (no-surfaces kind b t (drop 8 s) part e j) refl }
+
+  module _ (e : t is "SURF" ≡ true) where
+    pub never-open : TextAt s 8 Text.Open → {records′ : List ℕ} → SurfacesPut kind t s lengths bytes records records′
+    never-open w = record {
+      put = λ b part j.
+          let x = surface-of kind b t (drop 8 s) part e j in
+          let y = starts kind (drop 8 s) (x .sound) in
+          absurd (let z : _≡_ {A = ℕ} 0 1 = cc (sym (exactly (w .reads .says)) ∙ y .reads) in omega arith);
+    }
+
+    module _ {n : ℕ} {c : Cursor} (w : TextAt s 8 (Text.Got n c)) where
+      pub put-surface : {r : Record} {records′ : List ℕ} → RecordAt kind s r
+          → records′ ≡ withRecord (take (8 + n - 8) (drop 8 s)) (surfaceOf r) (pieces lengths bytes) records → SurfacesPut kind t s lengths bytes records records′
+      unfolding surfacesOf
+      put-surface r p = record {
+        put = λ b part j.
+            let x = surface-of kind b t (drop 8 s) part e j in
+            rw (x .all) (p ∙ rw (name-is w (starts kind (drop 8 s) (x .sound)), r .is (x .name) (x .values) (x .sound)) refl);
+      }

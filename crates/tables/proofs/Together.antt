@@ -1,0 +1,155 @@
+-- Room for all that a mesh needs is room for each fill, and what the fills put is what the mesh's tables hold. Assumes nothing.
+use mathlib.Core.Path.{_≡_, refl, sym, ap, _∙_}
+use mathlib.Core.List.{List, [], _∷_, _++_, map, map-append}
+use mathlib.Core.Bool.{true}
+use Prim.Native.Nat.{ℕ, _+_, _*_, _/_, _≤_}
+use native.Mathlib.Omega.{arith}
+use native.Mathlib.Nat.{zero-add}
+use lib.ListN.{length, take, drop, length-append, length-map}
+use borrow.Author.Tests.{leb-true}
+use Rattle.format.specs.declared.Kind.{Kind}
+use Rattle.format.specs.Bytes.{joined, sum}
+use Rattle.format.specs.Mesh.{Polygon, Name, pointWords, polygonWords, surfaceWords, pointSize, polygonSize, recordSize, Tables, lent, tables, Needs, needs}
+use Rattle.format.specs.Bodies.{Part}
+use Rattle.format.specs.Rules.{pointsOf, namesOf, meshOf}
+use Rattle.format.specs.Answer.{fits, over, filled}
+use Rattle.format.specs.Said.{Put}
+use Rattle.format.proofs.Puts.{joined-append}
+use Rattle.format.proofs.Verdicts.{same-fine}
+use Rattle.laws.proofs.Facts.{every-at, length-entries}
+use Rattle.survey.specs.declared.counts.Totals.{Totals}
+use Rattle.survey.specs.Answers.{totalsOf, needsIn}
+use Rattle.tables.specs.Fills.{pointsIn, lengthsIn, bytesIn, FileRoom, FilePut, allNames, allPolygons, allSurfaces, verticesOf, PolygonsRoom, PolygonsPut, RecordsRoom, RecordsPut, TablesRoom, TablesPut}
+
+-- ---- lists of lists
+
+joined-joined : {A B : Type 0} (h : A → List (List B)) (xs : List A) → joined (map (λ x. joined (h x)) xs) ≡ joined (joined (map h xs))
+unfolding joined
+joined-joined h [] = refl
+joined-joined h (x ∷ xs) = ap (λ l. joined (h x) ++ l) (joined-joined h xs) ∙ sym (joined-append (h x) (joined (map h xs)))
+
+map-joined : {A B C : Type 0} (f : B → C) (g : A → List B) (xs : List A) → joined (map (λ x. map f (g x)) xs) ≡ map f (joined (map g xs))
+unfolding joined
+map-joined f g [] = refl
+map-joined f g (x ∷ xs) = ap (λ l. map f (g x) ++ l) (map-joined f g xs) ∙ sym (map-append f (g x) (joined (map g xs)))
+
+total : {A B : Type 0} (f : A → List B) (xs : List A) → length (joined (map f xs)) ≡ sum (map (λ x. length (f x)) xs)
+unfolding joined sum
+total f [] = refl
+total f (x ∷ xs) = length-append (f x) (joined (map f xs)) ∙ ap (λ n. length (f x) + n) (total f xs)
+
+length-joined : {A : Type 0} (xss : List (List A)) → length (joined xss) ≡ sum (map length xss)
+unfolding joined sum
+length-joined [] = refl
+length-joined (xs ∷ xss) = length-append xs (joined xss) ∙ ap (λ n. length xs + n) (length-joined xss)
+
+-- ---- what the chunks make, and what the mesh's tables hold
+
+made-points : (parts : List Part) → joined (map pointsIn parts) ≡ joined (map pointWords (joined (map pointsOf parts)))
+made-points parts = joined-joined (λ part. map pointWords (pointsOf part)) parts ∙ ap joined (map-joined pointWords pointsOf parts)
+
+made-lengths : (parts : List Part) → joined (map lengthsIn parts) ≡ map length (allNames parts)
+made-lengths parts = map-joined length namesOf parts
+
+made-bytes : (parts : List Part) → joined (map bytesIn parts) ≡ joined (allNames parts)
+made-bytes parts = joined-joined namesOf parts
+
+-- ---- room
+
+record Roomy (n : Needs) (t : Tables) : Type 0 where
+  points : n .points ≤ length (t .points) / pointSize
+  polygons : n .polygons ≤ length (t .polygons) / polygonSize
+  vertices : n .vertices ≤ length (t .vertices)
+  names : n .names ≤ length (t .names)
+  nameBytes : n .nameBytes ≤ length (t .nameBytes)
+  records : n .names ≤ length (t .records) / recordSize
+
+roomy : (n : Needs) (t : Tables) → fits n t ≡ true → Roomy n t
+unfolding fits
+roomy n t e = record {
+  points = leb-true _ _ (every-at _ 0 e);
+  polygons = leb-true _ _ (every-at _ 1 e);
+  vertices = leb-true _ _ (every-at _ 2 e);
+  names = leb-true _ _ (every-at _ 3 e);
+  nameBytes = leb-true _ _ (every-at _ 4 e);
+  records = leb-true _ _ (every-at _ 5 e);
+}
+
+module _ {kind : Kind} {file : List ℕ} {totals : Totals} {t : Tables} (r : TablesRoom kind file totals t) where
+  room : Roomy (needs (meshOf kind (r .parts))) t
+  unfolding totalsOf
+  room = let n : needsIn totals ≡ needs (meshOf kind (r .parts)) = ap needsIn (r .counted) in rw n at (roomy (needsIn totals) t (r .roomy))
+
+  pub names-are : totals .names ≡ length (allNames (r .parts))
+  unfolding totalsOf needs meshOf
+  names-are = ap (λ t. t .names) (r .counted)
+
+  pub points-room : FileRoom pointsIn kind file (t .points)
+  unfolding needs meshOf
+  points-room =
+      let l : length (joined (map pointsIn (r .parts))) ≡ length (joined (map pointsOf (r .parts))) * pointSize = rw (made-points (r .parts)) (length-entries pointSize pointWords (λ p. refl) (joined (map pointsOf (r .parts)))) in
+      record { parts = r .parts; sound = r .sound; fits = omega (arith, l, room .points) }
+
+  pub lengths-room : FileRoom lengthsIn kind file (t .names)
+  unfolding needs meshOf
+  lengths-room =
+      let l : length (joined (map lengthsIn (r .parts))) ≡ length (allNames (r .parts)) = rw (made-lengths (r .parts)) (length-map (allNames (r .parts)) length) in
+      record { parts = r .parts; sound = r .sound; fits = omega (arith, l, room .names) }
+
+  pub bytes-room : FileRoom bytesIn kind file (t .nameBytes)
+  unfolding needs meshOf
+  bytes-room =
+      let l : length (joined (map bytesIn (r .parts))) ≡ sum (map length (allNames (r .parts))) = rw (made-bytes (r .parts)) (length-joined (allNames (r .parts))) in
+      record { parts = r .parts; sound = r .sound; fits = omega (arith, l, room .nameBytes) }
+
+  pub polygons-room : PolygonsRoom kind file (totals .names) (t .polygons) (t .vertices)
+  unfolding needs meshOf
+  polygons-room = record {
+    parts = r .parts;
+    sound = r .sound;
+    names-are = names-are;
+    few = r .few;
+    words-fit = omega (arith, room .polygons);
+    vertices-fit = omega (arith, total (λ (p : Polygon). p .vertices) (allPolygons (r .parts)), room .vertices);
+  }
+
+  -- the names stand in their tables by now
+  pub records-room : {lengths bytes : List ℕ} → FilePut lengthsIn kind file (t .names) lengths → FilePut bytesIn kind file (t .nameBytes) bytes → RecordsRoom kind file (totals .names) lengths bytes (t .records)
+  unfolding needs meshOf
+  records-room {lengths} {bytes} p q = record {
+    parts = r .parts;
+    sound = r .sound;
+    names-are = names-are;
+    more-lengths = _;
+    lengths-hold = rw (made-lengths (r .parts)) at (p .put (r .parts) (r .sound) .put);
+    more-bytes = _;
+    bytes-hold = rw (made-bytes (r .parts)) at (q .put (r .parts) (r .sound) .put);
+    fits = omega (arith, names-are, room .records);
+  }
+
+-- ---- the tables after the fills
+
+put-over : {t ws t′ : List ℕ} → Put t 0 ws t′ → t′ ≡ over ws t
+put-over {t} {ws} p = p .put ∙ ap (λ n. ws ++ drop n t) (zero-add (length ws))
+
+same-tables : (t t′ : Tables) → t .points ≡ t′ .points → t .polygons ≡ t′ .polygons → t .vertices ≡ t′ .vertices → t .names ≡ t′ .names → t .nameBytes ≡ t′ .nameBytes → t .records ≡ t′ .records → t ≡ t′
+same-tables t t′ p g v n b s = λ i. record { points = p i; polygons = g i; vertices = v i; names = n i; nameBytes = b i; records = s i }
+
+pub all-put : {kind : Kind} {file : List ℕ} {t t′ : Tables}
+    → FilePut pointsIn kind file (t .points) (t′ .points)
+    → PolygonsPut kind file (t .polygons) (t′ .polygons) (t .vertices) (t′ .vertices)
+    → FilePut lengthsIn kind file (t .names) (t′ .names)
+    → FilePut bytesIn kind file (t .nameBytes) (t′ .nameBytes)
+    → RecordsPut kind file (t .records) (t′ .records)
+    → TablesPut kind file t t′
+unfolding tables meshOf filled
+all-put {kind} {file} {t} {t′} points polygons lengths bytes records = record {
+  put = λ parts e.
+      same-tables t′ _
+      (put-over (rw (made-points parts) at (points .put parts e)))
+      (put-over (polygons .put-words parts e))
+      (put-over (polygons .put-vertices parts e))
+      (put-over (rw (made-lengths parts) at (lengths .put parts e)))
+      (put-over (rw (made-bytes parts) at (bytes .put parts e)))
+      (put-over (records .put parts e));
+}

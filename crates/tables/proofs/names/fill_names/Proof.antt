@@ -1,0 +1,110 @@
+use borrow.Author.Needs.{needs}
+use Prim.Native.Nat.{_-_}
+use mathlib.Core.Path.{_≡_, sym, ap, _∙_}
+use mathlib.Core.Bool.{true}
+use native.Mathlib.Omega.{arith}
+use lib.ListN.{length, take, drop}
+use Rattle.wire.specs.declared.header.Header.{Header}
+use Rattle.wire.specs.Answers.{HeaderAt}
+use Rattle.tables.specs.Listed.{namesTag}
+use Rattle.tables.proofs.Passing.{Turn, never-bad, turn}
+use Rattle.tables.proofs.Seeking.{Seeking, seek, unlisted, other, names-room, found}
+use Rattle.tables.proofs.names.fill_names.Statement.{statement}
+use Rattle.tables.proofs.names.fill_names.Tie as tie
+
+abbrev Inv-loop : tie.InvT-loop
+Inv-loop file kind lengths₀ bytes₀ at₀ lengths bytes at = Seeking kind file lengths₀ bytes₀ at lengths bytes
+
+abbrev μ-loop : tie.MeasureT-loop
+μ-loop file kind lengths₀ bytes₀ at₀ lengths bytes at = length file - at
+
+-- the chunk of this turn
+header : (x : tie.After-tag Inv-loop μ-loop) → HeaderAt 4 (x .before .before .before .before .before .before .before .before .args .file .now) (x .before .before .before .before .loop .at) (Header.Got (x .tag .given .0 .0) (x .tag .given .0 .1 .0) (x .tag .given .0 .1 .1 .0))
+header x = rw (x .tag .given .1) at (x .before .before .chunk-at .ensures)
+
+this : (x : tie.After-tag Inv-loop μ-loop) → Turn (x .before .before .before .before .loop .inv .walking) (x .tag .given .0 .0) (take (x .tag .given .0 .1 .0 - x .before .before .before .before .loop .at) (drop (x .before .before .before .before .loop .at) (x .before .before .before .before .before .before .before .before .args .file .now))) (x .tag .given .0 .1 .1 .0 .at)
+this x = turn (x .before .before .before .before .loop .inv .walking) (header x)
+
+-- it holds the names
+names-here : (t : tie.Then1 Inv-loop μ-loop) → namesTag (t .before .before .before .before .before .before .before .before .before .before .before .args .kind) (t .before .before .before .tag .given .0 .0) ≡ true
+names-here t = sym (t .before .holds-names .ensures) ∙ t .if1 .taken
+
+loop-holds : tie.Need-loop-holds Inv-loop μ-loop
+loop-holds c = seek (c .before .before .before .pre)
+
+returns : tie.Need-returns Inv-loop μ-loop
+returns c =
+    let u = c .before .before in
+    absurd (never-bad (u .before .before .loop .inv .walking) (u .before .loop-test .taken) (rw (c .enum-told .given .1) at (u .chunk-at .ensures)))
+
+sub-put-names : tie.Need-sub-put-names Inv-loop μ-loop
+sub-put-names c = omega (arith, header (c .before .before .before) .inside)
+
+part-put-names-start : tie.Need-part-put-names-start Inv-loop μ-loop
+part-put-names-start c = omega (arith, header (c .before .before .before) .inside)
+
+part-put-names-end : tie.Need-part-put-names-end Inv-loop μ-loop
+part-put-names-end c = omega (arith, header (c .before .before .before) .inside)
+
+put-names-requires : tie.Need-put-names-requires Inv-loop μ-loop
+put-names-requires c κs =
+    let t = c .before .before .before in
+    let x = t .before .before .before in
+    names-room (x .before .before .before .before .loop .inv) (this x) (names-here t)
+
+same-length-3 : tie.Need-same-length-3 Inv-loop μ-loop
+same-length-3 c =
+    let p = c .before .before .before .before in
+    p .put-names .kept .1 .0 ∙ ap length (p .before .before .before .before .before .before .before .before .before .before .before .loop .inv .same-lengths)
+
+same-length-4 : tie.Need-same-length-4 Inv-loop μ-loop
+same-length-4 c =
+    let p = c .before .before .before .before in
+    p .put-names .kept .1 .1 .1 .0 ∙ ap length (p .before .before .before .before .before .before .before .before .before .before .before .loop .inv .same-bytes)
+
+returns-2 : tie.Need-returns-2 Inv-loop μ-loop
+returns-2 c =
+    let p = c .before .before .before .before in
+    let t = p .before .before .before .before in
+    let x = t .before .before .before in
+    found (x .before .before .before .before .loop .inv) (this x) (names-here t) (p .put-names .ensures)
+
+loop-less : tie.Need-loop-less Inv-loop μ-loop
+loop-less c =
+    let x = c .before .before .before in
+    omega (arith, header x .inside, x .before .before .before .loop-test .taken)
+
+loop-again : tie.Need-loop-again Inv-loop μ-loop
+loop-again c =
+    let x = c .before .before .before in
+    other (x .before .before .before .before .loop .inv) (this x) (sym (c .before .holds-names .ensures) ∙ c .if1 .left)
+
+returns-3 : tie.Need-returns-3 Inv-loop μ-loop
+returns-3 c = unlisted (c .before .loop .inv) (c .loop-test .left)
+
+pub fill-names-spec : {M : Type 1} → statement M
+fill-names-spec =
+    tie.close
+    (tie.spec
+    Inv-loop
+    μ-loop
+    loop-holds
+    (λ c κs. search needs)
+    (λ c. search needs)
+    (λ c. search needs)
+    (λ c. search needs)
+    (λ c. search needs)
+    returns
+    (λ c κs. search needs)
+    sub-put-names
+    part-put-names-start
+    part-put-names-end
+    put-names-requires
+    same-length-3
+    same-length-4
+    returns-2
+    loop-less
+    loop-again
+    (λ c. search needs)
+    (λ c. search needs)
+    returns-3)

@@ -1,0 +1,93 @@
+use borrow.Author.Needs.{needs}
+use Prim.Native.Nat.{_-_}
+use mathlib.Core.Path.{sym, _∙_}
+use native.Mathlib.Omega.{arith}
+use lib.ListN.{length}
+use lib.Seq.{length-take-le}
+use Rattle.wire.specs.declared.header.Header.{Header}
+use Rattle.wire.specs.Answers.{HeaderAt}
+use Rattle.tables.proofs.Passing as walking
+use Rattle.tables.proofs.Settled.{Settling, settle, kept, listed-room, turn, settled}
+use Rattle.tables.proofs.records.fill_records.Statement.{statement}
+use Rattle.tables.proofs.records.fill_records.Tie as tie
+
+abbrev Inv-loop : tie.InvT-loop
+Inv-loop file kind count lengths bytes records₀ at₀ records at = Settling kind file count lengths bytes records₀ at records
+
+abbrev μ-loop : tie.MeasureT-loop
+μ-loop file kind count lengths bytes records₀ at₀ records at = length file - at
+
+-- the chunk of this turn
+header : (x : tie.After-tag Inv-loop μ-loop) → HeaderAt 4 (x .before .before .before .before .before .before .before .before .before .before .before .before .before .args .file .now) (x .before .before .before .before .loop .at) (Header.Got (x .tag .given .0 .0) (x .tag .given .0 .1 .0) (x .tag .given .0 .1 .1 .0))
+header x = rw (x .tag .given .1) at (x .before .before .chunk-at .ensures)
+
+put-missing-requires : tie.Need-put-missing-requires Inv-loop μ-loop
+put-missing-requires c κs = c .before .before .before .before .before .pre .fits
+
+loop-holds : tie.Need-loop-holds Inv-loop μ-loop
+loop-holds c =
+    let m = c .before .before in
+    settle (m .before .before .before .before .before .before .pre) (m .put-missing .kept .0) (m .put-missing .ensures)
+
+same-length : tie.Need-same-length Inv-loop μ-loop
+same-length c = kept (c .before .before .before .before .loop .inv) ∙ c .before .before .before .before .before .before .before .put-missing .kept .0
+
+returns : tie.Need-returns Inv-loop μ-loop
+returns c =
+    let u = c .before .before in
+    absurd (walking.never-bad (u .before .before .loop .inv .walking) (u .before .loop-test .taken) (rw (c .enum-told .given .1) at (u .chunk-at .ensures)))
+
+sub-put-chunk : tie.Need-sub-put-chunk Inv-loop μ-loop
+sub-put-chunk c = omega (arith, header (c .before) .inside)
+
+part-put-chunk-start : tie.Need-part-put-chunk-start Inv-loop μ-loop
+part-put-chunk-start c = omega (arith, header (c .before) .inside)
+
+part-put-chunk-end : tie.Need-part-put-chunk-end Inv-loop μ-loop
+part-put-chunk-end c = omega (arith, header (c .before) .inside)
+
+slice-aggregate-put-chunk : tie.Need-slice-aggregate-put-chunk Inv-loop μ-loop
+slice-aggregate-put-chunk c = let k = c .before .before .before .before .before .before .before .loop .inv in sym (length-take-le _ _ (k .names-held .few))
+
+put-chunk-requires : tie.Need-put-chunk-requires Inv-loop μ-loop
+put-chunk-requires c κs = listed-room (c .before .before .before .before .before .before .before .before .loop .inv)
+
+loop-less : tie.Need-loop-less Inv-loop μ-loop
+loop-less c =
+    let x = c .before .before .before .before .before .before .before in
+    omega (arith, header x .inside, x .before .before .before .loop-test .taken)
+
+loop-again : tie.Need-loop-again Inv-loop μ-loop
+loop-again c =
+    let x = c .before .before .before .before .before .before .before in
+    let k = x .before .before .before .before .loop .inv in
+    turn k (walking.turn (k .walking) (header x)) (c .before .before .put-chunk .ensures)
+
+same-length-2 : tie.Need-same-length-2 Inv-loop μ-loop
+same-length-2 c = kept (c .before .loop .inv) ∙ c .before .before .before .before .put-missing .kept .0
+
+returns-2 : tie.Need-returns-2 Inv-loop μ-loop
+returns-2 c = settled (c .before .loop .inv) (c .loop-test .left) (c .before .before .before .before .put-missing .ensures)
+
+pub fill-records-spec : {M : Type 1} → statement M
+fill-records-spec =
+    tie.close
+    (tie.spec
+    Inv-loop
+    μ-loop
+    put-missing-requires
+    loop-holds
+    (λ c κs. search needs)
+    (λ c. search needs)
+    (λ c. search needs)
+    same-length
+    returns
+    sub-put-chunk
+    part-put-chunk-start
+    part-put-chunk-end
+    slice-aggregate-put-chunk
+    put-chunk-requires
+    loop-less
+    loop-again
+    same-length-2
+    returns-2)
