@@ -1,0 +1,1 @@
+// The three demands as theorems: see specs/ for what is promised and proofs/ for the proofs.
