@@ -1,0 +1,6 @@
+pub mod Decimal
+pub mod Printing
+pub mod Vertices
+pub mod Lines
+pub mod Listed
+pub mod Answered

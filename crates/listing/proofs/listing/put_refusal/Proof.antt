@@ -1,0 +1,27 @@
+use native.Mathlib.Omega.{arith}
+use borrow.Author.Needs.{needs}
+use Rattle.listing.specs.Text.{refusalLine}
+use Rattle.listing.proofs.Printing.{wrote-all, at-most, three-print}
+use Rattle.listing.proofs.listing.put_refusal.Statement.{statement}
+use Rattle.listing.proofs.listing.put_refusal.Tie as tie
+
+returns : tie.Need-returns
+unfolding refusalLine
+returns c =
+    let p₃ = c .before .before in
+    let p₂ = p₃ .before .before .before .before .before in
+    let p₁ = p₂ .before .before .before .before .before in
+    at-most (three-print (p₁ .put-labelled .ensures) (p₂ .put-labelled2 .ensures) (wrote-all (p₃ .put-bytes .ensures)) (omega (arith, p₁ .before .before .before .before .pre))) (omega arith)
+
+pub put-refusal-spec : {M : Type 1} → statement M
+put-refusal-spec =
+    tie.close
+    (tie.spec
+    (λ c. search needs)
+    (λ c κs. search needs)
+    (λ c. search needs)
+    (λ c κs. search needs)
+    (λ c. search needs)
+    (λ c κs. search needs)
+    (λ c. search needs)
+    returns)

@@ -1,0 +1,78 @@
+-- What the functions that print into the output promise and ask.
+use Prim.Native.Nat.{ℕ, _+_, _*_, _≤_}
+use mathlib.Core.Path.{_≡_}
+use mathlib.Core.List.{List}
+use lib.ListN.{length, take}
+use Rattle.format.specs.Bytes.{sum}
+use Rattle.format.specs.Mesh.{Polygon, polygonSize}
+use Rattle.format.specs.Written.{vertexCounts}
+use Rattle.mesh.specs.Lent.{polygonsOf}
+use Rattle.writer.specs.Sizes.{Wrote}
+use Rattle.reader.specs.declared.Answer.{Answer}
+
+-- A text was put into the output from a place on, and takes at most so many bytes; `next` is the place after it.
+pub record Prints (before : List ℕ) (at : ℕ) (text after : List ℕ) (next most : ℕ) : Type 0 where
+  pub wrote : Wrote before at text after next
+  pub few : next ≤ at + most
+
+-- ---- the most bytes that a text takes: a number of 64 bits has at most 20 digits
+
+abbrev pub numberSize : ℕ
+numberSize = 20
+
+-- a number behind a label, and a line feed
+abbrev pub countSize : (label : List ℕ) → ℕ
+countSize label = length label + 21
+
+-- the five lines of the needs, and all eight lines of counts
+abbrev pub needsSize : ℕ
+needsSize = 147
+
+abbrev pub countsSize : ℕ
+countsSize = 214
+
+-- what stands before the vertices of a polygon; the vertices; and the whole line
+abbrev pub headingSize : ℕ
+headingSize = 92
+
+abbrev pub verticesSize : (vertices : List ℕ) → ℕ
+verticesSize vertices = 21 * length vertices
+
+abbrev pub lineSize : (vertices : List ℕ) → ℕ
+lineSize vertices = 93 + verticesSize vertices
+
+-- The lines of all polygons: 31 bytes for each of the three words of a polygon make 93.
+abbrev pub linesSize : (polygons vertices : List ℕ) → ℕ
+linesSize polygons vertices = 31 * length polygons + verticesSize vertices
+
+abbrev pub outputSize : (polygons vertices : List ℕ) → ℕ
+outputSize polygons vertices = countsSize + linesSize polygons vertices
+
+-- ---- what the tables hold
+
+-- entries of the polygons table and the vertices of their polygons, and room for their lines
+pub record PolygonsLent (out : List ℕ) (at : ℕ) (polygons vertices : List ℕ) : Type 0 where
+  pub agree : sum (vertexCounts polygons) ≡ length vertices
+  pub room : at + linesSize polygons vertices ≤ length out
+
+-- as much of the tables as an answer counts
+abbrev pub polygonsFront : Answer → (polygons : List ℕ) → List ℕ
+polygonsFront a polygons = take (a .polygons * polygonSize) polygons
+
+abbrev pub verticesFront : Answer → (vertices : List ℕ) → List ℕ
+verticesFront a vertices = take (a .vertices) vertices
+
+-- and the polygons that stand there
+unfoldable pub polygonsIn : Answer → (polygons vertices : List ℕ) → List Polygon
+polygonsIn a polygons vertices = polygonsOf (polygonsFront a polygons) (verticesFront a vertices)
+
+-- On an accepted file the tables hold as much as the answer counts.
+pub record Held (a : Answer) (polygons vertices : List ℕ) : Type 0 where
+  pub enough : a .polygons * polygonSize ≤ length polygons
+  pub enough-vertices : a .vertices ≤ length vertices
+  pub agree : sum (vertexCounts (polygonsFront a polygons)) ≡ a .vertices
+
+-- the tables after a file was read, and room for the listing of whatever they can hold
+pub record ListingLent (out : List ℕ) (a : Answer) (polygons vertices : List ℕ) : Type 0 where
+  pub held : a .number ≡ 0 → Held a polygons vertices
+  pub room : outputSize polygons vertices ≤ length out
