@@ -79,7 +79,7 @@ name-lengths (n ∷ ns) bytes agree = rw (length-take-le n bytes (omega arith), 
 
 -- ---- surfaces
 
-surface-size : (n : Name) (s : Surface) → length (surfaceBytes n s) ≡ stringSize (length n) + 90
+pub surface-size : (n : Name) (s : Surface) → length (surfaceBytes n s) ≡ stringSize (length n) + 90
 unfolding surfaceBytes levelBytes chunkBytes vxBytes bytes joined stringBytes
 surface-size n s = length-append (stringBytes n) _ ∙ ap (λ (k : ℕ). k + 90) (length-string n)
 
@@ -120,10 +120,13 @@ unfolding polygonsOf
 polygons-held ws vs agree = rw (← length-entries polygonSize ws) (polygons-size (entries polygonSize ws) vs agree)
 
 -- a pair has some bytes, so there are none where there are no bytes
-pub by-bytes : (ts : List (ℕ × ℕ)) (n : ℕ) → unlessNone (length ts) n ≡ unlessNone (total pairBytes ts) n
-unfolding unlessNone joined pairBytes
-by-bytes [] n = refl
-by-bytes (t ∷ ts) n =
+pub some-pairs : (t : ℕ × ℕ) (ts : List (ℕ × ℕ)) → total pairBytes (t ∷ ts) ≡ 0 → ⊥
+unfolding joined pairBytes
+some-pairs t ts none =
     let one = bytes 2 (t .1 - 1) in
-    let some : total pairBytes (t ∷ ts) ≡ 0 → ⊥ = λ e. omega (arith, length-append (vxBytes (t .0) ++ one) (joined (map pairBytes ts)), length-append (vxBytes (t .0)) one, length-vx (t .0)) in
-    rw (ne-eqb (suc (length ts)) 0 (λ e. omega arith), ne-eqb (total pairBytes (t ∷ ts)) 0 some)
+    omega (arith, none, length-append (vxBytes (t .0) ++ one) (joined (map pairBytes ts)), length-append (vxBytes (t .0)) one, length-vx (t .0))
+
+pub by-bytes : (ts : List (ℕ × ℕ)) (n : ℕ) → unlessNone (length ts) n ≡ unlessNone (total pairBytes ts) n
+unfolding unlessNone joined
+by-bytes [] n = refl
+by-bytes (t ∷ ts) n = rw (ne-eqb (suc (length ts)) 0 (λ e. omega arith), ne-eqb (total pairBytes (t ∷ ts)) 0 (some-pairs t ts))

@@ -1,23 +1,37 @@
-// The canonical file of a mesh: how long it is, what the writer answers, and the bytes of its items and entries.
+// The canonical file of a mesh: how long it is, what the writer answers, and the file put into a lent output.
 ghost use mathlib.Core.Path.{_≡_};
 ghost use mathlib.Core.Bool.{true};
 ghost use lib.ListN.{length};
 ghost use Rattle.format.specs.Mesh.{lent};
 ghost use Rattle.format.specs.Canonical.{canonical};
 ghost use Rattle.format.specs.Written.{meshFrom, isMesh, written};
-ghost use Rattle.writer.specs.Sizes.{answerAs};
+ghost use Rattle.writer.specs.Sizes.{answerAs, Wrote};
+ghost use Rattle.writer.specs.Parts.{FilePut};
+ghost use Rattle.writer.specs.Writes.{WriteOf};
+use crate::chunks::put_head;
+use crate::chunks::put_points;
+use crate::chunks::put_tags;
+use crate::items::put_u4;
 use crate::lengths::strings_length;
 use crate::lengths::unless_empty;
+use crate::run_chunks::put_runs;
 use crate::runs::runs_length;
+use crate::surface::put_surfaces;
 use crate::surfaces::surfaces_length;
+use crate::tags::FORM;
+use crate::tags::LWO2;
 use mesh::is_mesh;
 
+pub mod chunks;
 pub mod items;
 pub mod lengths;
 pub mod pairs;
 pub mod polygons;
+pub mod run_chunks;
 pub mod runs;
+pub mod surface;
 pub mod surfaces;
+pub mod tags;
 
 // A number of document 01, the place 0, and a length: bytes written on 0, bytes needed on 16, else 0.
 pub struct Answer {
@@ -79,4 +93,63 @@ pub fn answer_for(
         return says(16, length);
     }
     says(0, length)
+}
+
+// A file of n bytes: FORM with the length of what follows it, the type, and the chunks in their order.
+fn put_file(
+    out: &mut [u8],
+    points: &[u32],
+    polygons: &[u32],
+    vertices: &[u32],
+    names: &[u32],
+    name_bytes: &[u8],
+    records: &[u32],
+    n: usize,
+) -> usize
+    requires { ⌜ FilePut (lent (now points) (now polygons) (now vertices) (now names) (now «name_bytes») (now records)) (now out) n ⌝ }
+    ensures { λ r. ⌜ Wrote (now (out .entry)) 0 (canonical (meshFrom (lent (now (points .entry)) (now (polygons .entry)) (now (vertices .entry)) (now (names .entry)) (now («name_bytes» .entry)) (now (records .entry))))) (now (out .exit)) r ⌝ }
+{
+    let kind = put_head(out, 0, FORM, n - 8);
+    let tags = put_u4(out, kind, LWO2);
+    let coordinates = put_tags(out, tags, names, name_bytes);
+    let runs = put_points(out, coordinates, points);
+    let surfaces = put_runs(out, runs, polygons, vertices);
+    put_surfaces(out, surfaces, names, name_bytes, records)
+}
+
+// The output is written only where the answer is 0, and past the file's length it stays as it was.
+pub fn write(
+    points: &[u32],
+    polygons: &[u32],
+    vertices: &[u32],
+    names: &[u32],
+    name_bytes: &[u8],
+    records: &[u32],
+    out: &mut [u8],
+) -> Answer
+    ensures { λ r. ⌜ WriteOf (lent (now (points .entry)) (now (polygons .entry)) (now (vertices .entry)) (now (names .entry)) (now («name_bytes» .entry)) (now (records .entry))) (now (out .entry)) r (now (out .exit)) ⌝ }
+{
+    let answer = answer_for(
+        points,
+        polygons,
+        vertices,
+        names,
+        name_bytes,
+        records,
+        out.len(),
+    );
+    if answer.number != 0 {
+        return answer;
+    }
+    put_file(
+        out,
+        points,
+        polygons,
+        vertices,
+        names,
+        name_bytes,
+        records,
+        answer.length,
+    );
+    answer
 }

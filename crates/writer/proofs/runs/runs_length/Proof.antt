@@ -2,7 +2,8 @@ use Prim.Native.Nat.{_-_}
 use native.Mathlib.Omega.{arith}
 use lib.ListN.{length}
 use borrow.Author.Needs.{needs}
-use Rattle.writer.proofs.Chunked.{run-long, later, Chunked, begin, run-lent, room, turn, end}
+use Rattle.writer.proofs.Standing.{later, run-few, room, run-lent}
+use Rattle.writer.proofs.Chunked.{Chunked, begin, turn, end}
 use Rattle.writer.proofs.runs.runs_length.Statement.{statement}
 use Rattle.writer.proofs.runs.runs_length.Tie as tie
 
@@ -18,27 +19,27 @@ loop-holds c = begin (c .before .before .pre)
 sum-of-requires : tie.Need-sum-of-requires Inv-loop μ-loop
 sum-of-requires c κs =
     let e = c .before in
-    (omega arith, omega (arith, run-long (e .before .before .loop .inv) (e .before .loop-test .taken) (e .run-end .ensures), e .before .before .loop .inv .lent .few, e .run-end .ensures .few))
+    (omega arith, omega (arith, run-few (e .before .before .loop .inv .stands) (e .before .loop-test .taken) (e .run-end .ensures), e .before .before .loop .inv .stands .lent .few))
 
 add-last : tie.Need-add-last Inv-loop μ-loop
 add-last c =
     let e = c .before .before in
-    omega (arith, room (e .before .before .loop .inv) (e .before .loop-test .taken) (e .run-end .ensures) (c .sum-of .ensures))
+    omega (arith, room (e .before .before .loop .inv .stands) (e .before .loop-test .taken) (e .run-end .ensures) (c .sum-of .ensures))
 
 mul-run-length-2 : tie.Need-mul-run-length-2 Inv-loop μ-loop
 mul-run-length-2 c =
     let e = c .before .before .before in
-    omega (arith, room (e .before .before .loop .inv) (e .before .loop-test .taken) (e .run-end .ensures) (c .before .sum-of .ensures))
+    omega (arith, room (e .before .before .loop .inv .stands) (e .before .loop-test .taken) (e .run-end .ensures) (c .before .sum-of .ensures))
 
 part-run-length-end-2 : tie.Need-part-run-length-end-2 Inv-loop μ-loop
 part-run-length-end-2 c =
     let e = c .before .before .before in
-    room (e .before .before .loop .inv) (e .before .loop-test .taken) (e .run-end .ensures) (c .before .sum-of .ensures)
+    room (e .before .before .loop .inv .stands) (e .before .loop-test .taken) (e .run-end .ensures) (c .before .sum-of .ensures)
 
 run-length-requires : tie.Need-run-length-requires Inv-loop μ-loop
 run-length-requires c κs =
     let e = c .before .before .before .before in
-    run-lent (e .before .before .loop .inv) (e .before .loop-test .taken) (e .run-end .ensures) (c .before .before .sum-of .ensures)
+    run-lent (e .before .before .loop .inv .stands) (e .before .loop-test .taken) (e .run-end .ensures) (c .before .before .sum-of .ensures)
 
 loop-again : tie.Need-loop-again Inv-loop μ-loop
 loop-again c =
@@ -46,12 +47,12 @@ loop-again c =
     turn (e .before .before .loop .inv) (e .before .loop-test .taken) (e .run-end .ensures) (c .before .before .before .sum-of .ensures) (c .run-length .ensures)
 
 add-bytes : tie.Need-add-bytes Inv-loop μ-loop
-add-bytes c = let w = loop-again c in omega (arith, w .adds .few, w .inside, w .agree, w .lent .few, w .lent .few-vertices)
+add-bytes c = let w = loop-again c in omega (arith, w .adds .few, w .stands .inside, w .stands .agree, w .stands .lent .few, w .stands .lent .few-vertices)
 
 loop-less : tie.Need-loop-less Inv-loop μ-loop
 loop-less c =
     let e = c .before .before .before .before .before in
-    omega (arith, later (e .before .before .loop .inv) (e .before .loop-test .taken) (e .run-end .ensures), e .run-end .ensures .few)
+    omega (arith, later (e .before .before .loop .inv .stands) (e .before .loop-test .taken) (e .run-end .ensures), e .run-end .ensures .few)
 
 returns : tie.Need-returns Inv-loop μ-loop
 returns c = end (c .before .loop .inv) (c .loop-test .left)

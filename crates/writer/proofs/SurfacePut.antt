@@ -1,0 +1,151 @@
+-- SURF chunks put into the output: the values of one, the whole of one, and all of them in turn. Assumes nothing.
+use Prim.Native.Nat.{ℕ, _+_, _-_, _*_, _<_, _≤_}
+use Prim.Native.String.{String}
+use mathlib.Core.Path.{_≡_, refl, sym, ap, _∙_}
+use mathlib.Core.List.{List, [], _∷_, _++_, map, append-nil}
+use mathlib.Core.Bool.{Bool, true, false}
+use native.Mathlib.Omega.{arith}
+use lib.Dec.{eqb}
+use lib.ListN.{length, getD, take, drop, length-append, length-drop}
+use lib.Seq.{length-take-le}
+use borrow.Author.Tests.{eq-eqb, ne-eqb}
+use Rattle.format.specs.Bytes.{if_then_else_, sum, joined}
+use Rattle.format.specs.Items.{stringSize}
+use Rattle.format.specs.Mesh.{Name, Surface, recordSize, surfaceFrom, surfaceWords}
+use Rattle.format.specs.Canonical.{bytes, vxBytes, stringBytes, chunkBytes, levelBytes, surfaceBytes, surfaceChunks, encoded}
+use Rattle.format.specs.Written.{pieces}
+use Rattle.format.proofs.Puts.{joined-map-append}
+use Rattle.laws.proofs.Facts.{length-entries}
+use Rattle.laws.proofs.Items.{length-bytes}
+use Rattle.mesh.specs.Lent.{surfacesOf}
+use Rattle.mesh.proofs.Passing.{past-end}
+use Rattle.mesh.proofs.Recorded.{words-back}
+use Rattle.mesh.proofs.Entries.{part, pieces-at, sum-index, surfaces-at}
+use Rattle.writer.specs.Sizes.{Wrote}
+use Rattle.writer.specs.Parts.{chunksBytes, levelsBytes, valueBytes, surfaceChunk, SurfacesPut}
+use Rattle.writer.proofs.Sized.{short-vx, surface-size}
+use Rattle.writer.proofs.Filling as filling
+use Rattle.writer.proofs.Filling.{Filling, First}
+use Rattle.writer.proofs.Ordered.{Chunk, chunk-is}
+
+-- ---- levels
+
+module _ (tag : ℕ) (ls : List ℕ) where
+  abbrev levelsBody : List ℕ
+  levelsBody = joined (map (bytes 4) ls) ++ vxBytes 0
+
+  levels-long : 4 * length ls + 2 ≡ length levelsBody
+  levels-long = omega (arith, length-append (joined (map (bytes 4) ls)) (vxBytes 0), length-entries 4 (bytes 4) (length-bytes 4) ls, short-vx 0 (omega arith))
+
+  pub levels-chunk : {t : List ℕ} {at : ℕ} → at + length (levelsBytes tag ls) ≤ length t → Chunk (levelsBytes tag ls) 2 tag (4 * length ls + 2) levelsBody t at
+  levels-chunk fits = record { is = rw levels-long; fits = fits }
+
+-- the values of a record by its words
+abbrev pub values : List ℕ → List (List ℕ)
+values ws =
+    levelsBytes 0x434F4C52 (take 3 (drop 1 ws))
+    ∷ levelsBytes 0x44494646 (take 1 (drop 4 ws))
+    ∷ levelsBytes 0x4C554D49 (take 1 (drop 5 ws))
+    ∷ levelsBytes 0x53504543 (take 1 (drop 6 ws))
+    ∷ levelsBytes 0x5245464C (take 1 (drop 7 ws))
+    ∷ levelsBytes 0x5452414E (take 1 (drop 8 ws))
+    ∷ chunkBytes 2 "SIDE" (bytes 2 (getD ws 9 0))
+    ∷ []
+
+values-of : (s : Surface) → valueBytes s ≡ joined (values (surfaceWords s))
+unfolding valueBytes levelBytes chunkBytes bytes joined
+values-of s = refl
+
+pub values-are : (ws : List ℕ) → length ws ≡ recordSize → valueBytes (surfaceFrom ws) ≡ joined (values ws)
+values-are ws long = values-of (surfaceFrom ws) ∙ ap (λ (l : List ℕ). joined (values l)) (words-back ws long)
+
+-- ---- one surface
+
+module _ (name : Name) (s : Surface) where
+  pub not-defined : (s .defined ≡ 1 → ⊥) → surfaceChunk name s ≡ []
+  not-defined other = rw (ne-eqb (s .defined) 1 other)
+
+  pub surface-chunk : {t : List ℕ} {at n : ℕ} → s .defined ≡ 1 → n ≡ stringSize (length name) → at + length (surfaceChunk name s) ≤ length t
+      → Chunk (surfaceChunk name s) 4 0x53555246 (n + 90) (surfaceBytes name s) t at
+  unfolding bytes
+  surface-chunk {t} {at} {n} defined long fits =
+      let held : n + 90 ≡ length (surfaceBytes name s) = omega (arith, long, surface-size name s) in
+      let there : surfaceChunk name s ≡ chunkBytes 4 "SURF" (surfaceBytes name s) = rw (eq-eqb (s .defined) 1 defined) in
+      record { is = there ∙ chunk-is 4 0x53555246 "SURF" (surfaceBytes name s) refl held; fits = fits }
+
+  pub surface-parts : surfaceBytes name s ≡ joined (stringBytes name ∷ stringBytes [] ∷ valueBytes s ∷ [])
+  unfolding surfaceBytes valueBytes joined
+  surface-parts = ap (λ (l : List ℕ). stringBytes name ++ (stringBytes [] ++ l)) (sym (append-nil (valueBytes s)))
+
+-- the empty source
+pub no-source : bytes 2 0 ≡ stringBytes []
+unfolding bytes stringBytes
+no-source = refl
+
+-- ---- all surfaces
+
+-- the chunk of a name, or none
+abbrev chosen : Name → Surface → List (String × List ℕ)
+chosen name s = if eqb (s .defined) 1 then ("SURF", surfaceBytes name s) ∷ [] else []
+
+one-surface : (name : Name) (s : Surface) → chunksBytes (chosen name s) ≡ surfaceChunk name s
+unfolding joined
+one-surface name s = go (eqb (s .defined) 1)
+  where
+    go : (b : Bool) → chunksBytes (if b then ("SURF", surfaceBytes name s) ∷ [] else []) ≡ (if b then chunkBytes 4 "SURF" (surfaceBytes name s) else [])
+    go true = append-nil (chunkBytes 4 "SURF" (surfaceBytes name s))
+    go false = refl
+
+abbrev surfacesBytes : (names nameBytes records : List ℕ) → List ℕ
+surfacesBytes ns bs ws = chunksBytes (surfaceChunks (pieces ns bs) (surfacesOf ws))
+
+pub record Surfacing (ns bs ws t : List ℕ) (at : ℕ) (t′ : List ℕ) (next i from entry : ℕ) : Type 0 where
+  pub agree : from + sum (drop i ns) ≡ length bs
+  pub each : length ws ≡ recordSize * length ns
+  pub entry-is : entry ≡ recordSize * i
+  pub fills : Filling (surfacesBytes ns bs ws) (surfacesBytes (drop i ns) (drop from bs) (drop entry ws)) t at t′ next
+
+pub begin : {ns bs ws t : List ℕ} {at : ℕ} → SurfacesPut t at ns bs ws → Surfacing ns bs ws t at t at 0 0 0
+begin lent = record { agree = omega (arith, lent .agree); each = lent .a-record-each; entry-is = refl; fills = filling.begin (lent .room) }
+
+module _ {ns bs ws t t′ : List ℕ} {at next i from entry : ℕ} (w : Surfacing ns bs ws t at t′ next i from entry) where
+  pub end : length ns ≤ i → Wrote t at (surfacesBytes ns bs ws) t′ next
+  unfolding surfaceChunks pieces joined
+  end outside = filling.end (w .fills) (rw (past-end ns i outside))
+
+  module _ (inside : i < length ns) where
+    pub record-there : entry + recordSize ≤ length ws
+    record-there = omega (arith, w .each, w .entry-is)
+
+    module _ {n : ℕ} (count : n ≡ getD ns i 0) where
+      abbrev name : List ℕ
+      name = take (from + n - from) (drop from bs)
+
+      abbrev words : List ℕ
+      words = take (entry + recordSize - entry) (drop entry ws)
+
+      pub name-there : from + n ≤ length bs
+      name-there = omega (arith, w .agree, sum-index i ns inside)
+
+      one : First (surfacesBytes (drop i ns) (drop from bs) (drop entry ws)) (surfaceChunk name (surfaceFrom words)) (surfacesBytes (drop (i + 1) ns) (drop (from + n) bs) (drop (entry + recordSize) ws))
+      unfolding surfaceChunks
+      one = record {
+        is = rw (part from n bs, count, part entry recordSize ws, pieces-at i from ns bs inside, surfaces-at entry ws (omega (arith, record-there)))
+            (joined-map-append encoded (chosen (take (getD ns i 0) (drop from bs)) (surfaceFrom (take recordSize (drop entry ws)))) (surfaceChunks (pieces (drop (i + 1) ns) (drop (from + getD ns i 0) bs)) (surfacesOf (drop (entry + recordSize) ws)))
+            ∙ rw (one-surface (take (getD ns i 0) (drop from bs)) (surfaceFrom (take recordSize (drop entry ws)))));
+      }
+
+      pub surface-room : (length name ≡ n) × (length words ≡ recordSize) × (next + length (surfaceChunk name (surfaceFrom words)) ≤ length t′)
+      surface-room = (
+        rw (part from n bs) (length-take-le n (drop from bs) (omega (arith, name-there, length-drop from bs))),
+        rw (part entry recordSize ws) (length-take-le recordSize (drop entry ws) (omega (arith, record-there, length-drop entry ws))),
+        filling.room (w .fills) one,
+      )
+
+      pub turn : {t″ : List ℕ} {last : ℕ} → Wrote t′ next (surfaceChunk name (surfaceFrom words)) t″ last → Surfacing ns bs ws t at t″ last (i + 1) (from + n) (entry + recordSize)
+      turn v = record {
+        agree = omega (arith, w .agree, sum-index i ns inside);
+        each = w .each;
+        entry-is = omega (arith, w .entry-is);
+        fills = filling.turn (w .fills) one v;
+      }
