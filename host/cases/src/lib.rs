@@ -19,6 +19,7 @@ pub mod mutate;
 pub mod names;
 pub mod plain;
 pub mod random;
+pub mod samples;
 pub mod targeted;
 pub mod unlisted;
 pub mod valid;

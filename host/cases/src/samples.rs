@@ -1,0 +1,256 @@
+//! The files of the folder `samples`, which people can try. The example program of the same
+//! name writes them; a test sees that the folder holds just these bytes.
+
+use crate::assemble::{
+    chunk, f4, form, i2, join, string, sub_chunk, u2, u4, vx, vx_long, Kind, Tag,
+};
+
+/// All samples, by the names that they have in the folder.
+pub fn samples() -> Vec<(&'static str, Vec<u8>)> {
+    vec![
+        ("chest.lwo", chest()),
+        ("damaged.lwo", damaged()),
+        ("oak.lwo", oak()),
+        ("panel.lwo", panel()),
+        ("rosette.lwo", rosette()),
+    ]
+}
+
+/// Case l of document 01: one triangle of oak, canonical.
+fn oak() -> Vec<u8> {
+    triangle(2)
+}
+
+/// The same file, but its triangle names a fourth point, which there is not: refused 9 at 68.
+fn damaged() -> Vec<u8> {
+    triangle(3)
+}
+
+fn triangle(last_vertex: u32) -> Vec<u8> {
+    let corners = [[0.0, 0.0, 0.0], [1.0, 0.0, 0.0], [0.0, 2.0, 0.0]];
+    let chunks = [
+        chunk(b"TAGS", &string(b"Oak")),
+        chunk(b"PNTS", &points(&corners)),
+        chunk(b"POLS", &lwo2_polygons(b"FACE", &[&[0, 1, last_vertex]])),
+        chunk(b"PTAG", &taggings(&[(0, 0)])),
+    ];
+    form(Kind::Lwo2, &join(&chunks))
+}
+
+/// LWOB: a board with a gilded triangle on it, once as a face and once as a detail of the board,
+/// and a patch of a surface that is not defined.
+fn panel() -> Vec<u8> {
+    let corners = [
+        [0.0, 0.0, 0.0],
+        [1.2, 0.0, 0.0],
+        [1.2, 0.6, 0.0],
+        [0.0, 0.6, 0.0],
+        [0.3, 0.15, 0.0],
+        [0.9, 0.15, 0.0],
+        [0.9, 0.45, 0.0],
+    ];
+    let board = join(&[lwob_polygon(&[0, 1, 2, 3], -1), u2(1)]);
+    let gilding = lwob_polygon(&[4, 5, 6], 2);
+    let oak = [
+        sub_chunk(b"COLR", &[0x99, 0x66, 0x33, 0]),
+        sub_chunk(b"DIFF", &i2(230)),
+        sub_chunk(b"FLAG", &u2(0x0100)),
+    ];
+    let gold = [
+        sub_chunk(b"COLR", &[0xff, 0xcc, 0, 0]),
+        sub_chunk(b"LUMI", &i2(128)),
+        sub_chunk(b"VLUM", &level(0.25)),
+        sub_chunk(b"SPEC", &i2(256)),
+    ];
+    let chunks = [
+        chunk(b"PNTS", &points(&corners)),
+        chunk(b"SRFS", &strings(&[b"Oak", b"Gilding", b"Ash"])),
+        chunk(b"POLS", &join(&[&board, &gilding, &gilding])),
+        chunk(b"PCHS", &lwob_polygon(&[0, 1, 2, 3], 3)),
+        chunk(b"SURF", &join(&[string(b"Oak"), join(&oak)])),
+        chunk(b"SURF", &join(&[string(b"Gilding"), join(&gold)])),
+    ];
+    form(Kind::Lwob, &join(&chunks))
+}
+
+/// LWOB: a square with a raised middle. The ground is a face with two details, the four slopes
+/// are faces, the middle is a patch. It has a curve, which is skipped, and a surface that shines
+/// by its flag alone.
+fn rosette() -> Vec<u8> {
+    let corners = [
+        [-0.5, -0.5, 0.0],
+        [0.5, -0.5, 0.0],
+        [0.5, 0.5, 0.0],
+        [-0.5, 0.5, 0.0],
+        [-0.25, -0.25, 0.125],
+        [0.25, -0.25, 0.125],
+        [0.25, 0.25, 0.125],
+        [-0.25, 0.25, 0.125],
+    ];
+    let ground = [
+        lwob_polygon(&[3, 2, 1, 0], -1),
+        u2(2),
+        lwob_polygon(&[0, 1, 3], 2),
+        lwob_polygon(&[1, 2, 3], 2),
+    ];
+    let slopes = [
+        lwob_polygon(&[0, 1, 5, 4], 1),
+        lwob_polygon(&[1, 2, 6, 5], 1),
+        lwob_polygon(&[2, 3, 7, 6], 1),
+        lwob_polygon(&[3, 0, 4, 7], 1),
+    ];
+    let curve = [u2(3), u2(4), u2(5), u2(6), i2(1), u2(0)];
+    let lime = [
+        sub_chunk(b"COLR", &[0xe6, 0xd8, 0xad, 0]),
+        sub_chunk(b"VDIF", &level(0.875)),
+        sub_chunk(b"DIFF", &i2(200)),
+        sub_chunk(b"SMAN", &level(1.5)),
+    ];
+    let leaf = [
+        sub_chunk(b"COLR", &[0xd4, 0xaf, 0x37, 0]),
+        sub_chunk(b"FLAG", &u2(0x0101)),
+        sub_chunk(b"REFL", &i2(64)),
+    ];
+    let chunks = [
+        chunk(b"PNTS", &points(&corners)),
+        chunk(b"SRFS", &strings(&[b"Lime", b"Gold leaf"])),
+        chunk(b"POLS", &join(&[join(&ground), join(&slopes)])),
+        chunk(b"CRVS", &join(&curve)),
+        chunk(b"PCHS", &lwob_polygon(&[4, 5, 6, 7], 2)),
+        chunk(b"SURF", &join(&[string(b"Lime"), join(&lime)])),
+        chunk(b"SURF", &join(&[string(b"Gold leaf"), join(&leaf)])),
+    ];
+    form(Kind::Lwob, &join(&chunks))
+}
+
+/// LWO2: a chest in two point lists. The body is a box of six faces, the lid a patch whose vertex
+/// numbers count from the second list. A layer comes before each list and is skipped.
+fn chest() -> Vec<u8> {
+    let body = [
+        [0.0, 0.0, 0.0],
+        [0.8, 0.0, 0.0],
+        [0.8, 0.0, 0.4],
+        [0.0, 0.0, 0.4],
+        [0.0, 0.35, 0.0],
+        [0.8, 0.35, 0.0],
+        [0.8, 0.35, 0.4],
+        [0.0, 0.35, 0.4],
+    ];
+    let lid = [
+        [-0.02, 0.37, -0.02],
+        [0.82, 0.37, -0.02],
+        [0.82, 0.37, 0.42],
+        [-0.02, 0.37, 0.42],
+    ];
+    let sides: [&[u32]; 6] = [
+        &[0, 1, 2, 3],
+        &[4, 7, 6, 5],
+        &[0, 4, 5, 1],
+        &[1, 5, 6, 2],
+        &[2, 6, 7, 3],
+        &[3, 7, 4, 0],
+    ];
+    let parts = join(&[&b"PART"[..], &vx(0), &u2(0)]);
+    // The front is tagged twice, and the last tag stands: a brass front.
+    let body_tags = [(0, 0), (1, 0), (2, 0), (3, 0), (4, 0), (5, 0), (2, 1)];
+    let chunks = [
+        chunk(b"TAGS", &strings(&[b"Walnut", b"Brass", b"Felt"])),
+        chunk(b"LAYR", &layer(0, b"Body")),
+        chunk(b"PNTS", &points(&body)),
+        chunk(b"POLS", &lwo2_polygons(b"FACE", &sides)),
+        chunk(b"PTAG", &taggings(&body_tags)),
+        chunk(b"PTAG", &parts),
+        chunk(b"LAYR", &layer(1, b"Lid")),
+        chunk(b"PNTS", &points(&lid)),
+        chunk(b"POLS", &lwo2_polygons(b"PTCH", &[&[0, 3, 2, 1]])),
+        chunk(b"PTAG", &taggings(&[(0, 0)])),
+        chunk(b"SURF", &walnut()),
+        chunk(b"SURF", &brass()),
+    ];
+    form(Kind::Lwo2, &join(&chunks))
+}
+
+/// Seen from both sides, with a picture of the grain in a block.
+fn walnut() -> Vec<u8> {
+    let header = [
+        string(b"\x80"),
+        sub_chunk(b"CHAN", b"COLR"),
+        sub_chunk(b"ENAB", &u2(1)),
+    ];
+    let mapping = [
+        sub_chunk(b"SIZE", &join(&[points(&[[1.0, 1.0, 1.0]]), vx(0)])),
+        sub_chunk(b"CSYS", &u2(0)),
+    ];
+    let block = [
+        sub_chunk(b"IMAP", &join(&header)),
+        sub_chunk(b"TMAP", &join(&mapping)),
+        sub_chunk(b"IMAG", &vx(1)),
+    ];
+    join(&[
+        string(b"Walnut"),
+        string(b""),
+        sub_chunk(b"COLR", &join(&[points(&[[0.36, 0.23, 0.13]]), vx(0)])),
+        sub_chunk(b"DIFF", &enveloped(0.9)),
+        sub_chunk(b"SIDE", &u2(3)),
+        sub_chunk(b"BLOK", &join(&block)),
+    ])
+}
+
+/// With an envelope index in the long form, which is read and dropped.
+fn brass() -> Vec<u8> {
+    join(&[
+        string(b"Brass"),
+        string(b""),
+        sub_chunk(b"COLR", &join(&[points(&[[0.71, 0.65, 0.26]]), vx(0)])),
+        sub_chunk(b"SPEC", &enveloped(0.6)),
+        sub_chunk(b"REFL", &join(&[level(0.3), vx_long(1)])),
+    ])
+}
+
+fn points(list: &[[f32; 3]]) -> Vec<u8> {
+    let words = list.iter().flatten().map(|&number| level(number));
+    words.flatten().collect()
+}
+
+fn level(number: f32) -> Vec<u8> {
+    f4(number.to_bits())
+}
+
+/// A level without envelope.
+fn enveloped(number: f32) -> Vec<u8> {
+    join(&[level(number), vx(0)])
+}
+
+fn strings(names: &[&[u8]]) -> Vec<u8> {
+    names.iter().flat_map(|name| string(name)).collect()
+}
+
+/// Count, vertices and surface number of a face, detail or patch.
+fn lwob_polygon(vertices: &[u16], surface: i16) -> Vec<u8> {
+    let numbers = vertices.iter().flat_map(|&vertex| u2(vertex)).collect();
+    join(&[u2(vertices.len() as u16), numbers, i2(surface)])
+}
+
+fn lwo2_polygons(kind: &Tag, list: &[&[u32]]) -> Vec<u8> {
+    let mut body = kind.to_vec();
+    for vertices in list {
+        body.extend(u2(vertices.len() as u16));
+        body.extend(vertices.iter().flat_map(|&vertex| vx(vertex)));
+    }
+    body
+}
+
+/// A PTAG of type SURF: pairs of polygon and tag.
+fn taggings(pairs: &[(u32, u16)]) -> Vec<u8> {
+    let mut body = b"SURF".to_vec();
+    for &(polygon, tag) in pairs {
+        body.extend(join(&[vx(polygon), u2(tag)]));
+    }
+    body
+}
+
+/// Number, flags, pivot and name of a layer.
+fn layer(number: u16, name: &[u8]) -> Vec<u8> {
+    let pivot = join(&[u4(0), u4(0), u4(0)]);
+    join(&[u2(number), u2(0), pivot, string(name)])
+}

@@ -1,0 +1,365 @@
+//! Libraries that are wrong in one way each. Every one has to be found out, or
+//! the comparison would not be worth much.
+
+use cases::random::Random;
+use differ::guarded::Guarded;
+use differ::lent::Lent;
+use differ::library::Library;
+use differ::{check, files, meshes};
+use second::{Answer, Tables, Written};
+
+/// What goes wrong after the second program has answered.
+type WrongRead = fn(&mut Lent, &mut Answer);
+type WrongWrite = fn(&mut Guarded<u8>, &mut Written);
+
+/// The second program with a mistake.
+struct Wrong {
+    read: WrongRead,
+    write: WrongWrite,
+}
+
+impl Library for Wrong {
+    fn read(&self, file: &Guarded<u8>, lent: &mut Lent) -> Answer {
+        let mut tables = lent.tables();
+        let mut answer = second::read(file.content(), &mut tables);
+        put(lent, &tables);
+        (self.read)(lent, &mut answer);
+        answer
+    }
+
+    fn write(&self, lent: &Lent, out: &mut Guarded<u8>) -> Written {
+        let mut written = second::write(&lent.tables(), out.content_mut());
+        (self.write)(out, &mut written);
+        written
+    }
+}
+
+fn put(lent: &mut Lent, tables: &Tables) {
+    lent.points.content_mut().copy_from_slice(&tables.points);
+    lent.polygons
+        .content_mut()
+        .copy_from_slice(&tables.polygons);
+    lent.vertices
+        .content_mut()
+        .copy_from_slice(&tables.vertices);
+    lent.names.content_mut().copy_from_slice(&tables.names);
+    lent.name_bytes
+        .content_mut()
+        .copy_from_slice(&tables.name_bytes);
+    lent.records.content_mut().copy_from_slice(&tables.records);
+}
+
+fn reads_right(_: &mut Lent, _: &mut Answer) {}
+
+fn writes_right(_: &mut Guarded<u8>, _: &mut Written) {}
+
+/// What is said of the first of some hundred files on which it is found out.
+fn found_in_files(library: &Wrong) -> Option<String> {
+    let generated = (0..300).map(|number| files::generated(5, number));
+    let mut all = files::fixed().into_iter().take(200).chain(generated);
+    all.find_map(|one| check::file(library, &one.file).err())
+}
+
+fn found_in_meshes(library: &Wrong) -> Option<String> {
+    let generated = (0..100).map(|number| meshes::generated(5, number));
+    let mut all = meshes::fixed().into_iter().chain(generated);
+    all.find_map(|one| check::mesh(library, &one.tables).err())
+}
+
+#[track_caller]
+fn must_find_reader(read: WrongRead, words: &str) {
+    let library = Wrong {
+        read,
+        write: writes_right,
+    };
+    let said = found_in_files(&library).expect("the mistake was not found out");
+    assert!(said.contains(words), "{said}");
+}
+
+#[track_caller]
+fn must_find_writer(write: WrongWrite, words: &str) {
+    let library = Wrong {
+        read: reads_right,
+        write,
+    };
+    let said = found_in_meshes(&library).expect("the mistake was not found out");
+    assert!(said.contains(words), "{said}");
+    assert!(found_in_files(&library).is_some(), "not found out by files");
+}
+
+#[test]
+fn the_second_program_itself_is_right() {
+    let right = Wrong {
+        read: reads_right,
+        write: writes_right,
+    };
+    assert_eq!(found_in_files(&right), None);
+    assert_eq!(found_in_meshes(&right), None);
+}
+
+#[test]
+fn a_wrong_answer() {
+    must_find_reader(|_, answer| answer.number += 1, "the answer is");
+    must_find_reader(|_, answer| answer.place += 1, "the answer is");
+    must_find_reader(
+        |_, answer| answer.place = answer.place.saturating_sub(12),
+        "the answer is",
+    );
+    must_find_reader(|_, answer| answer.details = 0, "the answer is");
+    must_find_reader(|_, answer| answer.skipped = 0, "the answer is");
+    must_find_reader(|_, answer| answer.name_bytes ^= 1, "the answer is");
+}
+
+/// Needs that are told only where there is no room, or only where there is.
+#[test]
+fn needs_that_are_not_always_told() {
+    must_find_reader(
+        |_, answer| {
+            if answer.number == 0 {
+                answer.vertices = 0;
+            }
+        },
+        "the answer is",
+    );
+    must_find_reader(
+        |_, answer| {
+            if answer.number == 16 {
+                answer.polygons = 0;
+            }
+        },
+        "the answer is",
+    );
+}
+
+#[test]
+fn a_wrong_word_in_a_table() {
+    must_find_reader(change_point, "points: element");
+    must_find_reader(
+        |lent, answer| change(answer, lent.vertices.content_mut(), answer.vertices),
+        "vertices: element",
+    );
+    must_find_reader(
+        |lent, answer| change(answer, lent.polygons.content_mut(), answer.polygons * 3),
+        "polygons: element",
+    );
+    must_find_reader(
+        |lent, answer| change(answer, lent.names.content_mut(), answer.names),
+        "names: element",
+    );
+    must_find_reader(
+        |lent, answer| change(answer, lent.records.content_mut(), answer.names * 10),
+        "records: element",
+    );
+    must_find_reader(change_name_byte, "name bytes: element");
+}
+
+/// The last word of the mesh, which is the one that a loop misses.
+fn change(answer: &Answer, table: &mut [u32], words: u64) {
+    if answer.number == 0 && words > 0 {
+        table[words as usize - 1] ^= 1;
+    }
+}
+
+fn change_point(lent: &mut Lent, answer: &mut Answer) {
+    change(answer, lent.points.content_mut(), answer.points * 3);
+}
+
+fn change_name_byte(lent: &mut Lent, answer: &mut Answer) {
+    if answer.number == 0 {
+        if let Some(byte) = lent.name_bytes.content_mut().first_mut() {
+            *byte = byte.wrapping_add(1);
+        }
+    }
+}
+
+/// The word behind the mesh, where a table is longer than it.
+#[test]
+fn a_word_behind_the_mesh() {
+    must_find_reader(
+        |lent, answer| {
+            let end = answer.vertices as usize;
+            if let (0, Some(word)) = (answer.number, lent.vertices.content_mut().get_mut(end)) {
+                *word = 0;
+            }
+        },
+        "vertices: element",
+    );
+    // Part of an entry at the end of a table.
+    must_find_reader(
+        |lent, answer| {
+            let words = lent.records.length();
+            if answer.number == 0 && words % 10 != 0 {
+                lent.records.content_mut()[words - 1] = 0;
+            }
+        },
+        "records: element",
+    );
+}
+
+#[test]
+fn a_word_outside_a_table() {
+    must_find_reader(|lent, _| lent.points.behind_mut()[0] = 0, "1 past its end");
+    must_find_reader(
+        |lent, _| lent.records.behind_mut()[9] = 0,
+        "10 past its end",
+    );
+    must_find_reader(
+        |lent, _| {
+            let guards = lent.name_bytes.front_mut();
+            guards[guards.len() - 1] = 0;
+        },
+        "1 before its start",
+    );
+    must_find_reader(|lent, _| lent.vertices.behind_mut()[1] = 0, "vertices");
+    must_find_reader(|lent, _| lent.polygons.behind_mut()[2] = 0, "polygons");
+    must_find_reader(|lent, _| lent.names.behind_mut()[0] = 0, "names");
+}
+
+/// "Every refusal leaves every lent table ... unchanged."
+#[test]
+fn a_refusal_that_changes_a_table() {
+    must_find_reader(
+        |lent, answer| {
+            if answer.number != 0 {
+                lent.polygons.content_mut().fill(0);
+            }
+        },
+        "polygons: element",
+    );
+    must_find_reader(
+        |lent, answer| {
+            if answer.number == 16 {
+                lent.points.content_mut().fill(0);
+            }
+        },
+        "points: element",
+    );
+}
+
+/// NO ROOM where the records are the only table that is too short, and where a
+/// table has room but for part of an entry.
+#[test]
+fn a_wrong_look_at_the_room() {
+    must_find_reader(
+        |lent, answer| {
+            let others = lent.names.length() as u64 >= answer.names
+                && lent.points.length() as u64 >= answer.points * 3
+                && lent.polygons.length() as u64 >= answer.polygons * 3
+                && lent.vertices.length() as u64 >= answer.vertices
+                && lent.name_bytes.length() as u64 >= answer.name_bytes;
+            if answer.number == 16 && others {
+                answer.number = 0;
+            }
+        },
+        "the answer is",
+    );
+    must_find_reader(
+        |lent, answer| {
+            if answer.number == 0 && lent.points.length() % 3 == 1 {
+                answer.number = 16;
+            }
+        },
+        "the answer is",
+    );
+}
+
+/// An answer that goes by what the table held before.
+#[test]
+fn an_answer_by_the_contents_before() {
+    struct Peeking;
+    impl Library for Peeking {
+        fn read(&self, file: &Guarded<u8>, lent: &mut Lent) -> Answer {
+            let odd = lent
+                .names
+                .content()
+                .first()
+                .is_some_and(|word| word % 2 == 1);
+            let mut answer = right().read(file, lent);
+            answer.skipped += u64::from(odd && answer.number == 0);
+            answer
+        }
+
+        fn write(&self, lent: &Lent, out: &mut Guarded<u8>) -> Written {
+            right().write(lent, out)
+        }
+    }
+    fn right() -> Wrong {
+        Wrong {
+            read: reads_right,
+            write: writes_right,
+        }
+    }
+    let mut all = (0..100).map(|number| files::generated(5, number));
+    assert!(all.any(|one| check::file(&Peeking, &one.file).is_err()));
+}
+
+#[test]
+fn a_wrong_writer() {
+    must_find_writer(|_, written| written.number = 17, "the answer is");
+    must_find_writer(|_, written| written.place = 12, "the answer is");
+    must_find_writer(|_, written| written.length += 1, "the answer is");
+    must_find_writer(|out, _| out.behind_mut()[0] = 0, "1 past its end");
+    must_find_writer(
+        |out, written| {
+            if written.number == 0 {
+                out.content_mut()[written.length as usize - 1] ^= 1;
+            }
+        },
+        "the output: element",
+    );
+    must_find_writer(
+        |out, written| {
+            let end = written.length as usize;
+            if let (0, Some(byte)) = (written.number, out.content_mut().get_mut(end)) {
+                *byte = byte.wrapping_add(1);
+            }
+        },
+        "the output: element",
+    );
+}
+
+/// A writer that begins before it has seen that there is no room.
+#[test]
+fn a_refused_writing_that_changes_the_output() {
+    must_find_writer(
+        |out, written| {
+            if let (16, Some(byte)) = (written.number, out.content_mut().first_mut()) {
+                *byte = byte.wrapping_add(1);
+            }
+        },
+        "the output: element",
+    );
+    let library = Wrong {
+        read: reads_right,
+        write: |out, written| {
+            if let (17, Some(byte)) = (written.number, out.content_mut().first_mut()) {
+                *byte = byte.wrapping_add(1);
+            }
+        },
+    };
+    let said = found_in_meshes(&library).expect("the mistake was not found out");
+    assert!(said.contains("the output: element"), "{said}");
+}
+
+/// The demand on one more chunk is asked of the library alone: a reader that
+/// counts skipped chunks wrongly is found out by it.
+#[test]
+fn one_more_chunk_is_counted() {
+    let library = Wrong {
+        read: |_, answer| answer.skipped = answer.skipped.min(1),
+        write: writes_right,
+    };
+    let random = &mut Random::new(3);
+    let valid = (0..50).map(|number| cases::valid::valid(&mut Random::new(number)));
+    let mut said = valid.filter_map(|one| {
+        let file = one.parts.file();
+        let answer = second::read(&file, &mut Tables::default());
+        let needs = Answer {
+            number: 0,
+            ..answer
+        };
+        differ::more::one_more_chunk(&library, random, &file, &needs).err()
+    });
+    let words = said.next().expect("the mistake was not found out");
+    assert!(words.contains("one more chunk"), "{words}");
+}

@@ -1,0 +1,68 @@
+//! Reads LightWave object files, LWOB and LWO2, and writes a mesh as one canonical LWO2 file.
+//!
+//! The reading and writing is done by a library whose functions are proved to meet the rules;
+//! this crate lends it slices and gives its answers Rust's shapes. It reads points, faces,
+//! patches, names and base surface values. It does not read curves, vertex maps, clips,
+//! envelopes, textures or layers.
+//!
+//! ```
+//! # let file = b"FORM\0\0\0\x60LWO2TAGS\0\0\0\x04Oak\0PNTS\0\0\0\x24\
+//! #     \0\0\0\0\0\0\0\0\0\0\0\0\x3f\x80\0\0\0\0\0\0\0\0\0\0\0\0\0\0\x40\0\0\0\0\0\0\0\
+//! #     POLS\0\0\0\x0cFACE\0\x03\0\0\0\x01\0\x02PTAG\0\0\0\x08SURF\0\0\0\0";
+//! use lwo::Mesh;
+//!
+//! // `file` holds the bytes of an object file: a triangle of oak.
+//! let mesh = Mesh::read(file)?;
+//! let corners: Vec<[f32; 3]> = mesh.points().collect();
+//! assert_eq!(corners, [[0.0, 0.0, 0.0], [1.0, 0.0, 0.0], [0.0, 2.0, 0.0]]);
+//!
+//! let names: Vec<lwo::Name> = mesh.names().collect();
+//! for polygon in mesh.polygons() {
+//!     assert_eq!(polygon.kind, lwo::Kind::Face);
+//!     assert_eq!(polygon.vertices, [0, 1, 2]);
+//!     assert_eq!(polygon.name_index().map(|index| names[index].as_bytes()), Some(&b"Oak"[..]));
+//! }
+//!
+//! // The canonical file of the mesh is read back as the same mesh, to the bit.
+//! assert_eq!(Mesh::read(&mesh.to_lwo2()?)?, mesh);
+//! # Ok::<(), lwo::Refusal>(())
+//! ```
+//!
+//! A file that is not accepted is refused with a number, a place and a sentence:
+//!
+//! ```
+//! let refusal = lwo::Mesh::read(b"FORM\0\0\0\x05LWO2").unwrap_err();
+//! assert_eq!((refusal.number, refusal.place), (3, 0));
+//! assert!(refusal.to_string().starts_with("refused 3 at 0: the length"));
+//! ```
+//!
+//! [`Counts`] tells what a file holds without keeping it, [`Reading`] gives a mesh together with
+//! those counts, and [`lent`] has the library's own two functions, for a caller that lends
+//! tables of its own.
+#![deny(unsafe_code)]
+#![warn(missing_docs)]
+
+mod counts;
+#[allow(missing_docs)]
+pub mod ffi;
+#[allow(unsafe_code)]
+pub mod lent;
+mod mesh;
+mod name;
+mod polygon;
+mod reading;
+mod refusal;
+mod surface;
+mod tables;
+
+pub use counts::Counts;
+pub use mesh::Mesh;
+pub use name::{Name, Names};
+pub use polygon::{Kind, Polygon, Polygons};
+pub use reading::Reading;
+pub use refusal::Refusal;
+pub use surface::{Sides, Surface};
+pub use tables::{Tables, POINT_WORDS, POLYGON_WORDS, RECORD_WORDS};
+
+/// The longest file that is read or written, in bytes.
+pub const FILE_LIMIT: usize = 16_777_216;

@@ -1,0 +1,227 @@
+/*
+ * Uses the library as a C program does: reads the 104 bytes of case l of document
+ * 01 in two calls, checks every word, writes the mesh and compares the bytes, and
+ * has a file refused. Prints what is wrong and exits with 1, or prints nothing.
+ */
+#include <lwo.h>
+
+#include <inttypes.h>
+#include <stdio.h>
+#include <string.h>
+
+#define COUNT(table) (sizeof(table) / sizeof((table)[0]))
+
+/* A word or byte that no reader puts here, to see that it is left alone. */
+#define GUARD 0xA5u
+
+static const uint8_t CASE_L[] = {
+    'F', 'O', 'R', 'M', 0, 0, 0, 0x60, 'L', 'W', 'O', '2',
+    'T', 'A', 'G', 'S', 0, 0, 0, 4, 'O', 'a', 'k', 0,
+    'P', 'N', 'T', 'S', 0, 0, 0, 0x24,
+    0, 0, 0, 0, 0, 0, 0, 0, 0, 0, 0, 0,
+    0x3f, 0x80, 0, 0, 0, 0, 0, 0, 0, 0, 0, 0,
+    0, 0, 0, 0, 0x40, 0, 0, 0, 0, 0, 0, 0,
+    'P', 'O', 'L', 'S', 0, 0, 0, 12, 'F', 'A', 'C', 'E',
+    0, 3, 0, 0, 0, 1, 0, 2,
+    'P', 'T', 'A', 'G', 0, 0, 0, 8, 'S', 'U', 'R', 'F', 0, 0, 0, 0,
+};
+
+static int faults = 0;
+
+static void same(const char *what, uint64_t found, uint64_t wanted)
+{
+    if (found != wanted) {
+        printf("%s: %" PRIu64 ", and not %" PRIu64 "\n", what, found, wanted);
+        faults += 1;
+    }
+}
+
+static void same_words(const char *what, const uint32_t *found,
+                       const uint32_t *wanted, size_t count)
+{
+    for (size_t i = 0; i < count; i += 1) {
+        if (found[i] != wanted[i]) {
+            printf("%s, word %zu: %" PRIx32 ", and not %" PRIx32 "\n", what, i,
+                   found[i], wanted[i]);
+            faults += 1;
+        }
+    }
+}
+
+static void same_bytes(const char *what, const uint8_t *found,
+                       const uint8_t *wanted, size_t count)
+{
+    for (size_t i = 0; i < count; i += 1) {
+        if (found[i] != wanted[i]) {
+            printf("%s, byte %zu: %x, and not %x\n", what, i, (unsigned)found[i],
+                   (unsigned)wanted[i]);
+            faults += 1;
+        }
+    }
+}
+
+static void same_counts(LwoAnswer answer)
+{
+    same("place", answer.place, 0);
+    same("points", answer.points, 3);
+    same("polygons", answer.polygons, 1);
+    same("vertices", answer.vertices, 3);
+    same("names", answer.names, 1);
+    same("name bytes", answer.name_bytes, 3);
+    same("skipped", answer.skipped, 0);
+    same("details", answer.details, 0);
+}
+
+/* The first of the two calls: tables of length 0. */
+static LwoAnswer needs(const uint8_t *file, size_t length)
+{
+    uint32_t word = GUARD;
+    uint8_t byte = GUARD;
+    LwoAnswer answer = lwo_read(file, length, &word, 0, &word, 0, &word, 0,
+                                &word, 0, &byte, 0, &word, 0);
+    same("a word that was not lent", word, GUARD);
+    same("a byte that was not lent", byte, GUARD);
+    return answer;
+}
+
+/* Tables of the size that case l needs, each with one element more, which is not
+   lent. */
+typedef struct Tables {
+    uint32_t points[3 * LWO_POINT_WORDS + 1];
+    uint32_t polygons[1 * LWO_POLYGON_WORDS + 1];
+    uint32_t vertices[3 + 1];
+    uint32_t names[1 + 1];
+    uint8_t name_bytes[3 + 1];
+    uint32_t records[1 * LWO_RECORD_WORDS + 1];
+} Tables;
+
+/* The mesh of case l, as its listing has it, and a guard behind each table. */
+static const Tables MESH_L = {
+    {0, 0, 0, 0x3f800000, 0, 0, 0, 0x40000000, 0, GUARD},
+    {LWO_FACE, 3, 1, GUARD},
+    {0, 1, 2, GUARD},
+    {3, GUARD},
+    {'O', 'a', 'k', GUARD},
+    {0, 0x3f000000, 0x3f000000, 0x3f000000, 0x3f800000, 0, 0, 0, 0, 1, GUARD},
+};
+
+/* The second call. */
+static LwoAnswer read_into(Tables *tables, const uint8_t *file, size_t length)
+{
+    return lwo_read(file, length, tables->points, COUNT(tables->points) - 1,
+                    tables->polygons, COUNT(tables->polygons) - 1,
+                    tables->vertices, COUNT(tables->vertices) - 1,
+                    tables->names, COUNT(tables->names) - 1,
+                    tables->name_bytes, COUNT(tables->name_bytes) - 1,
+                    tables->records, COUNT(tables->records) - 1);
+}
+
+static LwoWritten write_from(const Tables *tables, uint8_t *out, size_t length)
+{
+    return lwo_write(tables->points, COUNT(tables->points) - 1,
+                     tables->polygons, COUNT(tables->polygons) - 1,
+                     tables->vertices, COUNT(tables->vertices) - 1,
+                     tables->names, COUNT(tables->names) - 1,
+                     tables->name_bytes, COUNT(tables->name_bytes) - 1,
+                     tables->records, COUNT(tables->records) - 1, out, length);
+}
+
+/* Every table with every element not yet what the mesh has there. */
+static Tables other_tables(void)
+{
+    Tables tables;
+    memset(&tables, 0x5a, sizeof tables);
+    tables.points[COUNT(tables.points) - 1] = GUARD;
+    tables.polygons[COUNT(tables.polygons) - 1] = GUARD;
+    tables.vertices[COUNT(tables.vertices) - 1] = GUARD;
+    tables.names[COUNT(tables.names) - 1] = GUARD;
+    tables.name_bytes[COUNT(tables.name_bytes) - 1] = GUARD;
+    tables.records[COUNT(tables.records) - 1] = GUARD;
+    return tables;
+}
+
+static void same_tables(const Tables *found, const Tables *wanted)
+{
+    same_words("points", found->points, wanted->points, COUNT(wanted->points));
+    same_words("polygons", found->polygons, wanted->polygons,
+               COUNT(wanted->polygons));
+    same_words("vertices", found->vertices, wanted->vertices,
+               COUNT(wanted->vertices));
+    same_words("names", found->names, wanted->names, COUNT(wanted->names));
+    same_bytes("name bytes", found->name_bytes, wanted->name_bytes,
+               COUNT(wanted->name_bytes));
+    same_words("records", found->records, wanted->records,
+               COUNT(wanted->records));
+}
+
+static void reads_in_two_calls(void)
+{
+    LwoAnswer need = needs(CASE_L, sizeof CASE_L);
+    same("the first call", need.number, LWO_NO_ROOM);
+    same_counts(need);
+
+    Tables tables = other_tables();
+    LwoAnswer answer = read_into(&tables, CASE_L, sizeof CASE_L);
+    same("the second call", answer.number, LWO_ACCEPTED);
+    same_counts(answer);
+    same_tables(&tables, &MESH_L);
+}
+
+static void writes_in_two_calls(void)
+{
+    uint8_t out[sizeof CASE_L + 1];
+    memset(out, GUARD, sizeof out);
+    LwoWritten need = write_from(&MESH_L, out, 0);
+    same("the length asked for", need.number, LWO_NO_ROOM);
+    same("its place", need.place, 0);
+    same("the length needed", need.length, sizeof CASE_L);
+    same("an output that was not lent", out[0], GUARD);
+
+    LwoWritten written = write_from(&MESH_L, out, sizeof out);
+    same("the writer's number", written.number, LWO_ACCEPTED);
+    same("its place", written.place, 0);
+    same("the length written", written.length, sizeof CASE_L);
+    same_bytes("the canonical file", out, CASE_L, sizeof CASE_L);
+    same("the byte past the file", out[sizeof CASE_L], GUARD);
+}
+
+/* A vertex that names no point. */
+static void refuses_to_write(void)
+{
+    uint8_t out[sizeof CASE_L];
+    Tables tables = MESH_L;
+    tables.vertices[2] = 3;
+    memset(out, GUARD, sizeof out);
+    LwoWritten written = write_from(&tables, out, sizeof out);
+    same("tables that are no mesh", written.number, LWO_NOT_A_MESH);
+    same("their place", written.place, 0);
+    same("their length", written.length, 0);
+    same("an output after a refusal", out[0], GUARD);
+}
+
+/* The POLS of case l, at 68, names a fourth point. */
+static void refuses_to_read(void)
+{
+    uint8_t file[sizeof CASE_L];
+    memcpy(file, CASE_L, sizeof file);
+    file[87] = 3;
+    Tables tables = other_tables();
+    Tables before = tables;
+    LwoAnswer answer = read_into(&tables, file, sizeof file);
+    same("a vertex number too high", answer.number, LWO_VERTEX_NUMBER);
+    same("its place", answer.place, 68);
+    same("its needs and counts",
+         answer.points + answer.polygons + answer.vertices + answer.names +
+             answer.name_bytes + answer.skipped + answer.details,
+         0);
+    same_tables(&tables, &before);
+}
+
+int main(void)
+{
+    reads_in_two_calls();
+    writes_in_two_calls();
+    refuses_to_read();
+    refuses_to_write();
+    return faults == 0 ? 0 : 1;
+}

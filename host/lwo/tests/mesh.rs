@@ -1,0 +1,240 @@
+//! The crate's meshes against what is known of the samples, and against the second program.
+
+use std::fs;
+use std::path::Path;
+
+use cases::files::files;
+use cases::meshes::{at_file_limit, damaged, mesh, rich_mesh};
+use cases::plain::PlainMesh;
+use cases::random::Random;
+use lwo::{Counts, Kind, Mesh, Reading, Refusal, Sides, Tables};
+
+const FILES: usize = 900;
+
+fn sample(name: &str) -> Vec<u8> {
+    let folder = Path::new(env!("CARGO_MANIFEST_DIR")).join("../../samples");
+    fs::read(folder.join(name)).expect(name)
+}
+
+fn tables_of(plain: PlainMesh) -> Tables {
+    Tables {
+        points: plain.points,
+        polygons: plain.polygons,
+        vertices: plain.vertices,
+        names: plain.names,
+        name_bytes: plain.name_bytes,
+        records: plain.records,
+    }
+}
+
+/// The second program's tables as the crate has them.
+fn second_tables(mesh: &second::Mesh) -> Tables {
+    let tables = mesh.tables();
+    Tables {
+        points: tables.points,
+        polygons: tables.polygons,
+        vertices: tables.vertices,
+        names: tables.names,
+        name_bytes: tables.name_bytes,
+        records: tables.records,
+    }
+}
+
+#[test]
+fn the_triangle_of_oak() {
+    let mesh = Mesh::read(&sample("oak.lwo")).expect("case l is accepted");
+    let points: Vec<[f32; 3]> = mesh.points().collect();
+    assert_eq!(points, [[0.0, 0.0, 0.0], [1.0, 0.0, 0.0], [0.0, 2.0, 0.0]]);
+    assert_eq!(mesh.point_bits()[2], [0, 0x4000_0000, 0]);
+
+    let polygon = mesh.polygons().next().expect("one polygon");
+    assert_eq!((polygon.kind, polygon.surface), (Kind::Face, 1));
+    assert_eq!(polygon.vertices, [0, 1, 2]);
+    assert_eq!(polygon.name_index(), Some(0));
+
+    let surface = mesh.surfaces().next().expect("one surface");
+    assert_eq!(surface.name.as_bytes(), b"Oak");
+    assert!(!surface.defined);
+    assert_eq!((surface.colour, surface.diffuse), ([0.5; 3], 1.0));
+    assert_eq!(surface.sides, Sides::Front);
+    assert_eq!(mesh.to_lwo2(), Ok(sample("oak.lwo")));
+}
+
+#[test]
+fn the_polygons_of_a_chest() {
+    let mesh = Mesh::read(&sample("chest.lwo")).expect("it is accepted");
+    assert_eq!((mesh.points().len(), mesh.polygons().len()), (12, 7));
+    let surfaces: Vec<u32> = mesh.polygons().map(|polygon| polygon.surface).collect();
+    assert_eq!(surfaces, [1, 1, 2, 1, 1, 1, 1]);
+    let lid = mesh.polygons().last().expect("a lid");
+    assert_eq!((lid.kind, lid.vertices), (Kind::Patch, &[8, 11, 10, 9][..]));
+}
+
+/// The panel's gilding has levels of both forms, and its oak is seen from both sides.
+#[test]
+fn the_surfaces_of_a_panel() {
+    let mesh = Mesh::read(&sample("panel.lwo")).expect("it is accepted");
+    let names: Vec<_> = mesh.names().map(|name| name.to_string_lossy()).collect();
+    assert_eq!(names, ["Oak", "Gilding", "Ash"]);
+
+    let surfaces: Vec<_> = mesh.surfaces().collect();
+    let [oak, gilding, ash] = surfaces[..] else {
+        panic!("{surfaces:?}");
+    };
+    assert_eq!(oak.colour, [0.6, 0.4, 0.2]);
+    assert_eq!((oak.diffuse, oak.sides), (230.0 / 256.0, Sides::Both));
+    assert_eq!(gilding.colour, [1.0, 0.8, 0.0]);
+    assert_eq!((gilding.luminosity, gilding.specular), (0.25, 1.0));
+    assert_eq!((gilding.diffuse, gilding.sides), (0.0, Sides::Front));
+    assert_eq!((gilding.reflection, gilding.transparency), (0.0, 0.0));
+    assert_eq!(
+        [oak.defined, gilding.defined, ash.defined],
+        [true, true, false]
+    );
+}
+
+#[test]
+fn what_is_not_in_the_mesh_is_counted() {
+    let reading = Reading::of(&sample("rosette.lwo")).expect("it is accepted");
+    let wanted = Counts {
+        points: 8,
+        polygons: 6,
+        vertices: 24,
+        names: 2,
+        name_bytes: 13,
+        skipped: 1,
+        details: 2,
+    };
+    assert_eq!(reading.counts, wanted);
+    assert_eq!(Counts::of(&sample("rosette.lwo")), Ok(wanted));
+}
+
+#[test]
+fn generated_files_are_answered_as_by_the_second_program() {
+    let (mut accepted, mut refused) = (0, 0);
+    for (name, file) in files(5).take(FILES) {
+        match second::rules(&file) {
+            Ok((mesh, skipped, details)) => {
+                accepted += 1;
+                let reading = Reading::of(&file).unwrap_or_else(|why| panic!("{name}: {why}"));
+                let counts = (reading.counts.skipped, reading.counts.details);
+                assert_eq!(counts, (skipped, details), "{name}");
+                assert_eq!(*reading.mesh.tables(), second_tables(&mesh), "{name}");
+                assert_eq!(Counts::of(&file), Ok(reading.counts), "{name}");
+            }
+            Err(why) => {
+                refused += 1;
+                let refusal = Refusal {
+                    number: why.number(),
+                    place: why.place(),
+                };
+                assert_eq!(Mesh::read(&file), Err(refusal), "{name}");
+                assert_eq!(Counts::of(&file), Err(refusal), "{name}");
+            }
+        }
+    }
+    assert!(
+        accepted > FILES / 4 && refused > FILES / 4,
+        "{accepted}, {refused}"
+    );
+}
+
+#[test]
+fn generated_meshes_are_written_and_read_back() {
+    for seed in 0..300 {
+        let tables = tables_of(mesh(&mut Random::new(seed)));
+        let mesh = Mesh::from_tables(tables.clone()).expect("a mesh");
+        let file = mesh.to_lwo2().expect("a short file");
+        assert_eq!(
+            file,
+            second::canonical(&second_mesh(&tables)),
+            "seed {seed}"
+        );
+        assert_eq!(Mesh::read(&file).as_ref(), Ok(&mesh), "seed {seed}");
+        assert_eq!(mesh.into_tables(), tables, "seed {seed}");
+    }
+}
+
+fn second_mesh(tables: &Tables) -> second::Mesh {
+    let tables = tables.clone();
+    second::Mesh::from_tables(&second::Tables {
+        points: tables.points,
+        polygons: tables.polygons,
+        vertices: tables.vertices,
+        names: tables.names,
+        name_bytes: tables.name_bytes,
+        records: tables.records,
+    })
+}
+
+/// What the iterators give is what the tables hold, word for word.
+#[test]
+fn iterators_go_through_the_whole_mesh() {
+    for seed in 0..100 {
+        let tables = tables_of(mesh(&mut Random::new(seed)));
+        let mesh = Mesh::from_tables(tables.clone()).expect("a mesh");
+        let mut again = Tables {
+            points: mesh.points().flatten().map(f32::to_bits).collect(),
+            ..Tables::default()
+        };
+        for polygon in mesh.polygons() {
+            let count = polygon.vertices.len() as u32;
+            let entry = [polygon.kind.number(), count, polygon.surface];
+            again.polygons.extend(entry);
+            again.vertices.extend(polygon.vertices);
+        }
+        for surface in mesh.surfaces() {
+            let name = surface.name.as_bytes();
+            again.names.push(name.len() as u32);
+            again.name_bytes.extend(name);
+            again.records.extend(record_of(&surface));
+        }
+        assert_eq!(again, tables, "seed {seed}");
+    }
+}
+
+fn record_of(surface: &lwo::Surface) -> [u32; 10] {
+    let [red, green, blue] = surface.colour.map(f32::to_bits);
+    [
+        u32::from(surface.defined),
+        red,
+        green,
+        blue,
+        surface.diffuse.to_bits(),
+        surface.luminosity.to_bits(),
+        surface.specular.to_bits(),
+        surface.reflection.to_bits(),
+        surface.transparency.to_bits(),
+        surface.sides.number(),
+    ]
+}
+
+#[test]
+fn tables_that_are_no_mesh_are_refused() {
+    let mut random = Random::new(11);
+    let whole = rich_mesh(&mut random);
+    for one in damaged(&mut random, &whole) {
+        let refusal = Mesh::from_tables(tables_of(one.mesh));
+        let wanted = Refusal {
+            number: 17,
+            place: 0,
+        };
+        assert_eq!(refusal, Err(wanted), "{}", one.name);
+    }
+}
+
+/// A mesh whose canonical file is over the limit is a mesh, and cannot be written.
+#[test]
+fn a_canonical_file_too_long_is_refused() {
+    let longest = Mesh::from_tables(tables_of(at_file_limit(false))).expect("a mesh");
+    let file = longest.to_lwo2().expect("a file within the limit");
+    assert!(file.len() <= lwo::FILE_LIMIT, "{}", file.len());
+    assert!(Mesh::read(&file).as_ref() == Ok(&longest));
+
+    let longer = Mesh::from_tables(tables_of(at_file_limit(true))).expect("a mesh");
+    let refusal = Refusal {
+        number: 18,
+        place: 0,
+    };
+    assert_eq!(longer.to_lwo2(), Err(refusal));
+}
