@@ -18,7 +18,7 @@ use Rattle.format.specs.Written.{meshFrom, isMesh, Written, says, written, outp
 use Rattle.reader.specs.declared.Answer.{Answer as ReadAnswer}
 use Rattle.reader.specs.Reads.{answerAs, ReadOf}
 use Rattle.writer.specs.declared.Answer.{Answer as WriteAnswer}
-use Rattle.writer.specs.Sizes.{answerAs as writeAs}
+use Rattle.writer.specs.Writes.{answerAs as writeAs}
 use Rattle.writer.specs.Writes.{WriteOf}
 use Rattle.demands.specs.Demand1.{ReadAnswers, writeNumbers, oneOf, WriteAnswers, Demand1}
 use Rattle.demands.proofs.Refusals.{InOutcome, rules-in}

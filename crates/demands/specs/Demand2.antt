@@ -17,7 +17,7 @@ use Rattle.laws.proofs.WrittenBack.{tableWords}
 use Rattle.reader.specs.declared.Answer.{Answer as ReadAnswer}
 use Rattle.reader.specs.Reads.{answerAs as readAs, ReadOf}
 use Rattle.writer.specs.declared.Answer.{Answer as WriteAnswer}
-use Rattle.writer.specs.Sizes.{answerAs as writeAs}
+use Rattle.writer.specs.Writes.{answerAs as writeAs}
 use Rattle.writer.specs.Writes.{WriteOf}
 
 -- ---- reading

@@ -17,7 +17,7 @@ use Rattle.laws.proofs.Facts.{length-entries}
 use Rattle.laws.proofs.Tables.{mesh-from-tables}
 use Rattle.mesh.specs.Lent.{polygonsOf}
 use Rattle.mesh.proofs.Entries.{first}
-use Rattle.writer.specs.Sizes.{Wrote}
+use Rattle.output.specs.Outputs.{Wrote}
 use Rattle.reader.specs.declared.Answer.{Answer}
 use Rattle.reader.specs.Reads.{answerAs, ReadOf}
 use Rattle.listing.specs.Text.{lineEnd, listing, polygonsGiven, inputLimit, printed}

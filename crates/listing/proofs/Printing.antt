@@ -4,8 +4,8 @@ use mathlib.Core.Path.{_≡_, refl, sym, _∙_}
 use mathlib.Core.List.{List, [], _++_, append-assoc, append-nil}
 use native.Mathlib.Omega.{arith}
 use lib.ListN.{length}
-use Rattle.writer.specs.Sizes.{Wrote}
-use Rattle.writer.proofs.Filling.{nothing, then-wrote}
+use Rattle.output.specs.Outputs.{Wrote}
+use Rattle.output.proofs.Filling.{nothing, then-wrote}
 use Rattle.listing.specs.Prints.{Prints}
 
 -- a text that was put takes its length

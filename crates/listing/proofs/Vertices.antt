@@ -5,7 +5,7 @@ use mathlib.Core.List.{List}
 use native.Mathlib.Omega.{arith}
 use lib.ListN.{length, getD, drop}
 use Rattle.format.specs.Bytes.{spelt}
-use Rattle.writer.proofs.Filling.{joined-more, joined-none}
+use Rattle.output.proofs.Filling.{joined-more, joined-none}
 use Rattle.listing.specs.Text.{labelled, vertexTexts}
 use Rattle.listing.specs.Prints.{Prints, verticesSize}
 use Rattle.listing.proofs.Printing as printing

@@ -7,7 +7,7 @@ use Rattle.format.specs.Bytes.{sum}
 use Rattle.format.specs.Mesh.{Polygon, polygonSize}
 use Rattle.format.specs.Written.{vertexCounts}
 use Rattle.mesh.specs.Lent.{polygonsOf}
-use Rattle.writer.specs.Sizes.{Wrote}
+use Rattle.output.specs.Outputs.{Wrote}
 use Rattle.reader.specs.declared.Answer.{Answer}
 
 -- A text was put into the output from a place on, and takes at most so many bytes; `next` is the place after it.

@@ -8,8 +8,8 @@ use crate::polygons::put_polygons;
 use crate::text::put_count;
 use crate::text::put_labelled;
 use mesh::words::wide;
+use output::items::put_bytes;
 use reader::Answer;
-use writer::items::put_bytes;
 
 // The lines of the five needs.
 fn put_needs(out: &mut [u8], at: usize, answer: Answer) -> usize

@@ -1,13 +1,13 @@
 // Reads an object file from standard input and prints its listing.
 ghost use Rattle.format.specs.Mesh.{lent};
 ghost use Rattle.io.specs.Counts.{Counts};
-ghost use Rattle.writer.specs.Sizes.{Wrote};
+ghost use Rattle.output.specs.Outputs.{Wrote};
 ghost use Rattle.listing.specs.Text.{printed};
 use crate::listing::put_listing;
 use libc::STDIN_FILENO;
 use libc::STDOUT_FILENO;
+use output::items::put_bytes;
 use reader::read;
-use writer::items::put_bytes;
 
 mod listing;
 mod polygons;

@@ -10,7 +10,7 @@ use mesh::polygons::kind;
 use mesh::polygons::surface;
 use mesh::polygons::vertex_count;
 use mesh::words::wide;
-use writer::items::put_bytes;
+use output::items::put_bytes;
 
 // What stands before the vertices of polygon `number`.
 fn put_heading(out: &mut [u8], at: usize, number: usize, kind: u32, surface: u32) -> usize

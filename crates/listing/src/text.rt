@@ -4,7 +4,7 @@ ghost use lib.ListN.{length};
 ghost use Rattle.listing.specs.Text.{decimal, labelled, countLine, vertexTexts};
 ghost use Rattle.listing.specs.Prints.{Prints, numberSize, countSize, verticesSize};
 use mesh::words::wide;
-use writer::items::put_bytes;
+use output::items::put_bytes;
 
 // The library puts the digits into an array of their own, from where they are copied.
 pub fn put_decimal(out: &mut [u8], at: usize, n: usize) -> usize

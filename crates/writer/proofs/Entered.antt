@@ -14,9 +14,10 @@ use Rattle.format.specs.Written.{vertexCounts}
 use Rattle.laws.proofs.Facts.{all-part}
 use Rattle.mesh.specs.Lent.{entryAt, polygonsOf}
 use Rattle.mesh.proofs.Entries.{part, sum-at, polygons-at, polygons-past}
-use Rattle.writer.specs.Sizes.{total, Wrote, PolygonsPut}
-use Rattle.writer.proofs.Filling as filling
-use Rattle.writer.proofs.Filling.{Filling, First}
+use Rattle.output.specs.Outputs.{total, Wrote}
+use Rattle.writer.specs.Parts.{PolygonsPut}
+use Rattle.output.proofs.Filling as filling
+use Rattle.output.proofs.Filling.{Filling, First}
 
 pub record Entered (ws vs t : List ℕ) (at : ℕ) (t′ : List ℕ) (next entry first : ℕ) : Type 0 where
   pub lent : PolygonsPut t at ws vs

@@ -21,7 +21,7 @@ use Rattle.laws.proofs.Tables.{good-tables, tables-back}
 use Rattle.mesh.specs.Lent.{polygonsOf, surfacesOf}
 use Rattle.mesh.proofs.Entries.{length-entries}
 use Rattle.mesh.proofs.Known.{known}
-use Rattle.writer.specs.Parts.{chunksBytes, headBytes}
+use Rattle.output.specs.Outputs.{chunksBytes, headBytes}
 
 -- ---- points, whose bytes are those of their words
 

@@ -1,15 +1,6 @@
-pub mod Adding
-pub mod Sized
-pub mod Filling
-pub mod Ordered
-pub mod Paired
-pub mod Running
-pub mod Standing
-pub mod Chunked
 pub mod RunPut
 pub mod SurfacePut
 pub mod Entered
-pub mod Filed
 pub mod FileParts
 pub mod Answered
 pub mod Writing

@@ -15,16 +15,18 @@ use Rattle.format.proofs.Puts.{joined-map-append}
 use Rattle.laws.proofs.Facts.{all-part}
 use Rattle.mesh.specs.Lent.{entryAt, column, polygonsOf}
 use Rattle.mesh.proofs.Entries.{polygons-at, polygons-past}
-use Rattle.writer.specs.Sizes.{total, Counted, leading, pairsFrom, Wrote}
-use Rattle.writer.specs.Parts.{chunksBytes, unlessNoBytes, Indexed, RunLent}
-use Rattle.writer.proofs.Sized.{polygons-held, some-pairs}
-use Rattle.writer.proofs.Filling as filling
-use Rattle.writer.proofs.Filling.{Filling, First}
-use Rattle.writer.proofs.Ordered.{in-two, Chunk, chunk-is}
-use Rattle.writer.proofs.Paired.{pairs-are}
-use Rattle.writer.proofs.Running.{surfaces}
-use Rattle.writer.proofs.Standing.{Standing, start, run-lent, onward, next-run}
-use Rattle.writer.proofs.Chunked.{four, surfaceOf}
+use Rattle.output.specs.Outputs.{total, Wrote}
+use Rattle.lengths.specs.Sizes.{Counted, leading, pairsFrom}
+use Rattle.output.specs.Outputs.{chunksBytes}
+use Rattle.writer.specs.Parts.{unlessNoBytes, Indexed, RunLent}
+use Rattle.lengths.proofs.Sized.{polygons-held, some-pairs}
+use Rattle.output.proofs.Filling as filling
+use Rattle.output.proofs.Filling.{Filling, First}
+use Rattle.output.proofs.Ordered.{in-two, Chunk, chunk-is}
+use Rattle.lengths.proofs.Paired.{pairs-are}
+use Rattle.lengths.proofs.Running.{surfaces}
+use Rattle.lengths.proofs.Standing.{Standing, start, run-lent, onward, next-run}
+use Rattle.lengths.proofs.Chunked.{four, surfaceOf}
 
 -- ---- one run
 

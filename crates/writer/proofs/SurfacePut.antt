@@ -21,12 +21,14 @@ use Rattle.mesh.specs.Lent.{surfacesOf}
 use Rattle.mesh.proofs.Passing.{past-end}
 use Rattle.mesh.proofs.Recorded.{words-back}
 use Rattle.mesh.proofs.Entries.{part, pieces-at, sum-index, surfaces-at}
-use Rattle.writer.specs.Sizes.{Wrote}
-use Rattle.writer.specs.Parts.{chunksBytes, levelsBytes, valueBytes, surfaceChunk, SurfacesPut}
-use Rattle.writer.proofs.Sized.{short-vx, surface-size}
-use Rattle.writer.proofs.Filling as filling
-use Rattle.writer.proofs.Filling.{Filling, First}
-use Rattle.writer.proofs.Ordered.{Chunk, chunk-is}
+use Rattle.output.specs.Outputs.{Wrote}
+use Rattle.output.specs.Outputs.{chunksBytes}
+use Rattle.writer.specs.Parts.{levelsBytes, valueBytes, surfaceChunk, SurfacesPut}
+use Rattle.output.proofs.Filling.{short-vx}
+use Rattle.lengths.proofs.Sized.{surface-size}
+use Rattle.output.proofs.Filling as filling
+use Rattle.output.proofs.Filling.{Filling, First}
+use Rattle.output.proofs.Ordered.{Chunk, chunk-is}
 
 -- ---- levels
 

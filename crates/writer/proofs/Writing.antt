@@ -14,7 +14,8 @@ use Rattle.format.specs.Mesh.{Tables}
 use Rattle.format.specs.Canonical.{canonical}
 use Rattle.format.specs.Written.{meshFrom, isMesh, Written, says, written, outputAfter}
 use Rattle.writer.specs.declared.Answer.{Answer}
-use Rattle.writer.specs.Sizes.{answerAs, Wrote}
+use Rattle.writer.specs.Writes.{answerAs}
+use Rattle.output.specs.Outputs.{Wrote}
 use Rattle.writer.specs.Parts.{FilePut}
 use Rattle.writer.specs.Writes.{WriteOf}
 

@@ -8,20 +8,13 @@ use lib.Dec.{eqb, ltb}
 use lib.ListN.{length, replicate}
 use Rattle.format.specs.Bytes.{if_then_else_, spelt, all, sum, joined}
 use Rattle.format.specs.Mesh.{Name, Surface, Tables, polygonSize, recordSize}
-use Rattle.format.specs.Canonical.{bytes, vxBytes, chunkBytes, levelBytes, surfaceBytes, surfaceChunks, encoded, canonical}
-use Rattle.format.specs.Written.{pieces, meshFrom, isMesh}
-use Rattle.mesh.specs.Lent.{surfacesOf}
-use Rattle.writer.specs.Sizes.{PolygonsLent}
+use Rattle.format.specs.Canonical.{bytes, vxBytes, polygonBytes, chunkBytes, levelBytes, surfaceBytes, surfaceChunks, canonical}
+use Rattle.format.specs.Written.{pieces, vertexCounts, meshFrom, isMesh}
+use Rattle.mesh.specs.Lent.{polygonsOf, surfacesOf}
+use Rattle.output.specs.Outputs.{total, chunksBytes, headBytes}
+use Rattle.lengths.specs.Sizes.{PolygonsLent}
 
 -- ---- chunks
-
--- chunks as they stand in the file
-abbrev pub chunksBytes : List (String × List ℕ) → List ℕ
-chunksBytes cs = joined (map encoded cs)
-
--- a tag by its number, and the length of a body
-abbrev pub headBytes : (width tag n : ℕ) → List ℕ
-headBytes width tag n = bytes 4 tag ++ bytes width n
 
 -- `chunkBytes` by the number of the tag
 abbrev pub taggedBytes : (width tag : ℕ) → List ℕ → List ℕ
@@ -77,3 +70,11 @@ pub record FilePut (t : Tables) (out : List ℕ) (n : ℕ) : Type 0 where
   pub mesh : isMesh t ≡ true
   pub long : n ≡ length (canonical (meshFrom t))
   pub room : n ≤ length out
+
+-- ---- polygons
+
+-- polygons with their vertices, whose indices have 24 bits, and room for what they are written as
+pub record PolygonsPut (out : List ℕ) (at : ℕ) (polygons vertices : List ℕ) : Type 0 where
+  pub agree : sum (vertexCounts polygons) ≡ length vertices
+  pub small : all (λ v. ltb v (2 ^ 24)) vertices ≡ true
+  pub room : at + total polygonBytes (polygonsOf polygons vertices) ≤ length out

@@ -4,9 +4,11 @@ use mathlib.Core.List.{List}
 use Prim.Native.Nat.{ℕ}
 use lib.ListN.{length}
 use Rattle.format.specs.Mesh.{Tables}
-use Rattle.format.specs.Written.{written, outputAfter}
+use Rattle.format.specs.Written.{Written, written, outputAfter}
 use Rattle.writer.specs.declared.Answer.{Answer}
-use Rattle.writer.specs.Sizes.{answerAs}
+
+abbrev pub answerAs : Answer → Written
+answerAs a = record { number = a .number; place = a .place; length = a .length }
 
 -- the output is lent as `out`, and comes back as out′
 pub record WriteOf (t : Tables) (out : List ℕ) (a : Answer) (out′ : List ℕ) : Type 0 where

@@ -5,32 +5,26 @@ ghost use lib.ListN.{length};
 ghost use Rattle.format.specs.Mesh.{lent};
 ghost use Rattle.format.specs.Canonical.{canonical};
 ghost use Rattle.format.specs.Written.{meshFrom, isMesh, written};
-ghost use Rattle.writer.specs.Sizes.{answerAs, Wrote};
+ghost use Rattle.writer.specs.Writes.{answerAs};
+ghost use Rattle.output.specs.Outputs.{Wrote};
 ghost use Rattle.writer.specs.Parts.{FilePut};
 ghost use Rattle.writer.specs.Writes.{WriteOf};
-use crate::chunks::put_head;
 use crate::chunks::put_points;
 use crate::chunks::put_tags;
-use crate::items::put_u4;
-use crate::lengths::strings_length;
-use crate::lengths::unless_empty;
 use crate::run_chunks::put_runs;
-use crate::runs::runs_length;
 use crate::surface::put_surfaces;
-use crate::surfaces::surfaces_length;
 use crate::tags::FORM;
 use crate::tags::LWO2;
+use lengths::file_length;
 use mesh::is_mesh;
+use output::heads::put_head;
+use output::items::put_u4;
 
 pub mod chunks;
-pub mod items;
-pub mod lengths;
 pub mod pairs;
 pub mod polygons;
 pub mod run_chunks;
-pub mod runs;
 pub mod surface;
-pub mod surfaces;
 pub mod tags;
 
 // A number of document 01, the place 0, and a length: bytes written on 0, bytes needed on 16, else 0.
@@ -38,26 +32,6 @@ pub struct Answer {
     pub number: u32,
     pub place: usize,
     pub length: usize,
-}
-
-// TAGS, PNTS, the runs of polygons and the surfaces, after the FORM header. Nothing is written, so a file over the limit is counted too.
-pub fn file_length(
-    points: &[u32],
-    polygons: &[u32],
-    vertices: &[u32],
-    names: &[u32],
-    name_bytes: &[u8],
-    records: &[u32],
-) -> usize
-    requires { ⌜ isMesh (lent (now points) (now polygons) (now vertices) (now names) (now «name_bytes») (now records)) ≡ true ⌝ }
-    ensures { λ r. ⌜ r ≡ length (canonical (meshFrom (lent (now (points .entry)) (now (polygons .entry)) (now (vertices .entry)) (now (names .entry)) (now («name_bytes» .entry)) (now (records .entry))))) ⌝ }
-{
-    let count = points.len() / 3;
-    12
-        + unless_empty(names.len(), strings_length(names))
-        + unless_empty(count, 12 * count)
-        + runs_length(polygons, vertices)
-        + surfaces_length(names, records)
 }
 
 fn says(number: u32, length: usize) -> Answer

@@ -4,10 +4,11 @@ ghost use lib.ListN.{length};
 ghost use Rattle.format.specs.Limits.{entryLimit};
 ghost use Rattle.format.specs.Mesh.{polygonSize};
 ghost use Rattle.mesh.specs.Lent.{column};
-ghost use Rattle.writer.specs.Sizes.{Wrote, pairOf, pairsFrom};
-use crate::items::put_u2;
-use crate::items::put_vx;
+ghost use Rattle.output.specs.Outputs.{Wrote};
+ghost use Rattle.lengths.specs.Sizes.{pairOf, pairsFrom};
 use mesh::polygons::surface;
+use output::items::put_u2;
+use output::items::put_vx;
 
 // The pair of polygon i, or nothing where it has no surface. Tags count from 0.
 fn put_pair(out: &mut [u8], at: usize, i: u32, surface: u32) -> usize

@@ -8,11 +8,12 @@ ghost use lib.ListN.{length};
 ghost use Rattle.format.specs.Bytes.{all, joined};
 ghost use Rattle.format.specs.Canonical.{bytes, vxBytes, polygonBytes};
 ghost use Rattle.mesh.specs.Lent.{polygonsOf};
-ghost use Rattle.writer.specs.Sizes.{Wrote, PolygonsPut};
-use crate::items::put_u2;
-use crate::items::put_vertices;
+ghost use Rattle.output.specs.Outputs.{Wrote};
+ghost use Rattle.writer.specs.Parts.{PolygonsPut};
 use mesh::words::wide;
 use mesh::words::word_at;
+use output::items::put_u2;
+use output::items::put_vertices;
 
 // A polygon: its vertex count, whose six high bits are 0 since it is below 1,024, and its vertices.
 fn put_polygon(out: &mut [u8], at: usize, count: u32, vertices: &[u32]) -> usize

@@ -8,23 +8,25 @@ ghost use Rattle.format.specs.Limits.{entryLimit};
 ghost use Rattle.format.specs.Mesh.{word, polygonSize};
 ghost use Rattle.format.specs.Canonical.{bytes, chunkBytes, polygonBytes, typeOf, runs, runChunks};
 ghost use Rattle.mesh.specs.Lent.{entryAt, column, polygonsOf};
-ghost use Rattle.writer.specs.Sizes.{Wrote, pairsFrom};
-ghost use Rattle.writer.specs.Parts.{chunksBytes, unlessNoBytes, Indexed, RunLent};
-use crate::chunks::put_head;
-use crate::chunks::put_pad;
-use crate::items::put_u4;
-use crate::lengths::vertices_length;
+ghost use Rattle.output.specs.Outputs.{Wrote};
+ghost use Rattle.lengths.specs.Sizes.{pairsFrom};
+ghost use Rattle.output.specs.Outputs.{chunksBytes};
+ghost use Rattle.writer.specs.Parts.{unlessNoBytes, Indexed, RunLent};
 use crate::pairs::put_pairs;
 use crate::polygons::put_polygons;
-use crate::runs::pairs_length;
-use crate::runs::run_end;
 use crate::tags::FACE;
 use crate::tags::POLS;
 use crate::tags::PTAG;
 use crate::tags::PTCH;
 use crate::tags::SURF;
+use lengths::items::vertices_length;
+use lengths::runs::pairs_length;
+use lengths::runs::run_end;
 use mesh::polygons::kind;
 use mesh::words::sum_of;
+use output::heads::put_head;
+use output::heads::put_pad;
+use output::items::put_u4;
 
 fn type_of(kind: u32) -> u32
     ensures { λ r. ⌜ bytes 4 r ≡ spelt (typeOf kind) ⌝ }

@@ -6,16 +6,9 @@ ghost use Rattle.format.specs.Mesh.{recordSize, surfaceFrom};
 ghost use Rattle.format.specs.Canonical.{bytes, chunkBytes, surfaceChunks};
 ghost use Rattle.format.specs.Written.{pieces};
 ghost use Rattle.mesh.specs.Lent.{surfacesOf};
-ghost use Rattle.writer.specs.Sizes.{Wrote};
-ghost use Rattle.writer.specs.Parts.{chunksBytes, levelsBytes, valueBytes, surfaceChunk, SurfacesPut};
-use crate::chunks::put_head;
-use crate::chunks::put_pad;
-use crate::chunks::put_sub_head;
-use crate::items::put_string;
-use crate::items::put_u2;
-use crate::items::put_vx;
-use crate::items::put_words;
-use crate::lengths::string_length;
+ghost use Rattle.output.specs.Outputs.{Wrote};
+ghost use Rattle.output.specs.Outputs.{chunksBytes};
+ghost use Rattle.writer.specs.Parts.{levelsBytes, valueBytes, surfaceChunk, SurfacesPut};
 use crate::tags::COLR;
 use crate::tags::DIFF;
 use crate::tags::LUMI;
@@ -24,7 +17,15 @@ use crate::tags::SIDE;
 use crate::tags::SPEC;
 use crate::tags::SURF;
 use crate::tags::TRAN;
+use lengths::items::string_length;
 use mesh::words::wide;
+use output::heads::put_head;
+use output::heads::put_pad;
+use output::heads::put_sub_head;
+use output::items::put_string;
+use output::items::put_u2;
+use output::items::put_vx;
+use output::items::put_words;
 
 // One level, or the three of a colour, with the envelope. Their length is even, so no pad follows.
 fn put_levels(out: &mut [u8], at: usize, tag: u32, levels: &[u32]) -> usize

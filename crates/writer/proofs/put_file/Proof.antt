@@ -8,7 +8,7 @@ use Rattle.format.specs.Canonical.{canonical}
 use Rattle.format.specs.Written.{meshFrom}
 use Rattle.laws.proofs.Items.{length-bytes}
 use Rattle.mesh.proofs.Known.{Known, known}
-use Rattle.writer.proofs.Ordered.{Ordered, begin, room, turn, end}
+use Rattle.output.proofs.Ordered.{Ordered, begin, room, turn, end}
 use Rattle.writer.proofs.FileParts.{fileParts, small-vertices, head-long, file-is}
 use Rattle.writer.proofs.put_file.Statement.{statement}
 use Rattle.writer.proofs.put_file.Tie as tie

@@ -9,9 +9,9 @@ use Rattle.format.specs.Bytes.{joined}
 use Rattle.format.specs.Canonical.{bytes, unlessEmpty}
 use Rattle.laws.proofs.Facts.{length-entries}
 use Rattle.laws.proofs.Items.{length-bytes}
-use Rattle.writer.specs.Parts.{chunksBytes}
-use Rattle.writer.proofs.Filling.{nothing}
-use Rattle.writer.proofs.Ordered.{Chunk, head-room, body-room, pad-room, chunk, chunk-is, left-out, put-in}
+use Rattle.output.specs.Outputs.{chunksBytes}
+use Rattle.output.proofs.Filling.{nothing}
+use Rattle.output.proofs.Ordered.{Chunk, head-room, body-room, pad-room, chunk, chunk-is, left-out, put-in}
 use Rattle.writer.proofs.chunks.put_points.Statement.{statement}
 use Rattle.writer.proofs.chunks.put_points.Tie as tie
 

@@ -8,10 +8,10 @@ use Rattle.format.specs.Mesh.{Name}
 use Rattle.format.specs.Canonical.{bytes, stringBytes, unlessEmpty}
 use Rattle.format.specs.Written.{pieces}
 use Rattle.mesh.proofs.Entries.{length-pieces}
-use Rattle.writer.specs.Parts.{chunksBytes}
-use Rattle.writer.proofs.Sized.{strings-size}
-use Rattle.writer.proofs.Filling.{nothing}
-use Rattle.writer.proofs.Ordered.{Chunk, head-room, body-room, pad-room, chunk, chunk-is, left-out, put-in}
+use Rattle.output.specs.Outputs.{chunksBytes}
+use Rattle.lengths.proofs.Sized.{strings-size}
+use Rattle.output.proofs.Filling.{nothing}
+use Rattle.output.proofs.Ordered.{Chunk, head-room, body-room, pad-room, chunk, chunk-is, left-out, put-in}
 use Rattle.writer.proofs.chunks.put_tags.Statement.{statement}
 use Rattle.writer.proofs.chunks.put_tags.Tie as tie
 

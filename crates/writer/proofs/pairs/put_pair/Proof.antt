@@ -2,8 +2,8 @@ use Prim.Native.Nat.{_-_}
 use native.Mathlib.Omega.{arith}
 use borrow.Author.Needs.{needs}
 use Rattle.laws.proofs.Items.{length-bytes}
-use Rattle.writer.proofs.Filling.{nothing, then-wrote}
-use Rattle.writer.proofs.Paired.{no-pair, a-pair, pair-parts}
+use Rattle.output.proofs.Filling.{nothing, then-wrote}
+use Rattle.lengths.proofs.Paired.{no-pair, a-pair, pair-parts}
 use Rattle.writer.proofs.pairs.put_pair.Statement.{statement}
 use Rattle.writer.proofs.pairs.put_pair.Tie as tie
 

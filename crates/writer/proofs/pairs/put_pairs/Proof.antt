@@ -7,9 +7,9 @@ use denote.Ref.{now}
 use Rattle.format.specs.Limits.{entryLimit}
 use Rattle.format.specs.Mesh.{polygonSize}
 use Rattle.mesh.specs.Lent.{column}
-use Rattle.writer.specs.Sizes.{pairsFrom}
-use Rattle.writer.proofs.Filling.{Filling, begin, room, turn, end}
-use Rattle.writer.proofs.Paired.{pairs-left, pairs-done}
+use Rattle.lengths.specs.Sizes.{pairsFrom}
+use Rattle.output.proofs.Filling.{Filling, begin, room, turn, end}
+use Rattle.lengths.proofs.Paired.{pairs-left, pairs-done}
 use Rattle.writer.proofs.pairs.put_pairs.Statement.{statement}
 use Rattle.writer.proofs.pairs.put_pairs.Tie as tie
 

@@ -2,7 +2,7 @@ use native.Mathlib.Omega.{arith}
 use borrow.Author.Needs.{needs}
 use denote.Ref.{now}
 use Rattle.laws.proofs.Items.{length-bytes}
-use Rattle.writer.proofs.Filling.{then-wrote}
+use Rattle.output.proofs.Filling.{then-wrote}
 use Rattle.writer.proofs.Entered.{polygon-parts}
 use Rattle.writer.proofs.polygons.put_polygon.Statement.{statement}
 use Rattle.writer.proofs.polygons.put_polygon.Tie as tie

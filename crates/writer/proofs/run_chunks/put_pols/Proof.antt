@@ -7,8 +7,8 @@ use Rattle.format.specs.Bytes.{spelt, joined}
 use Rattle.format.specs.Mesh.{word, polygonSize}
 use Rattle.format.specs.Canonical.{chunkBytes, polygonBytes, typeOf}
 use Rattle.mesh.specs.Lent.{entryAt, polygonsOf}
-use Rattle.writer.proofs.Ordered.{Ordered, begin, in-two, room, turn, end, Chunk, head-room, body-room, pad-room, chunk}
-use Rattle.writer.proofs.Chunked.{four}
+use Rattle.output.proofs.Ordered.{Ordered, begin, in-two, room, turn, end, Chunk, head-room, body-room, pad-room, chunk}
+use Rattle.lengths.proofs.Chunked.{four}
 use Rattle.writer.proofs.RunPut.{pols}
 use Rattle.writer.proofs.run_chunks.put_pols.Statement.{statement}
 use Rattle.writer.proofs.run_chunks.put_pols.Tie as tie

@@ -7,10 +7,10 @@ use Rattle.format.specs.Bytes.{spelt}
 use Rattle.format.specs.Mesh.{polygonSize}
 use Rattle.format.specs.Canonical.{bytes}
 use Rattle.mesh.specs.Lent.{column}
-use Rattle.writer.specs.Sizes.{pairsFrom}
+use Rattle.lengths.specs.Sizes.{pairsFrom}
 use Rattle.writer.specs.Parts.{unlessNoBytes}
-use Rattle.writer.proofs.Filling.{nothing}
-use Rattle.writer.proofs.Ordered.{Ordered, begin, in-two, room, turn, end, Chunk, head-room, body-room, pad-room, chunk}
+use Rattle.output.proofs.Filling.{nothing}
+use Rattle.output.proofs.Ordered.{Ordered, begin, in-two, room, turn, end, Chunk, head-room, body-room, pad-room, chunk}
 use Rattle.writer.proofs.RunPut.{no-ptag, ptag}
 use Rattle.writer.proofs.run_chunks.put_ptag.Statement.{statement}
 use Rattle.writer.proofs.run_chunks.put_ptag.Tie as tie

@@ -4,9 +4,10 @@ use denote.Ref.{now}
 use Rattle.format.specs.Canonical.{chunkBytes, runChunks}
 use Rattle.format.specs.Mesh.{polygonSize}
 use Rattle.mesh.specs.Lent.{column, polygonsOf}
-use Rattle.writer.specs.Sizes.{pairsFrom}
-use Rattle.writer.specs.Parts.{chunksBytes, unlessNoBytes}
-use Rattle.writer.proofs.Ordered.{Ordered, begin, room, turn, end}
+use Rattle.lengths.specs.Sizes.{pairsFrom}
+use Rattle.output.specs.Outputs.{chunksBytes}
+use Rattle.writer.specs.Parts.{unlessNoBytes}
+use Rattle.output.proofs.Ordered.{Ordered, begin, room, turn, end}
 use Rattle.writer.proofs.RunPut.{polsBody, run-chunks-are}
 use Rattle.writer.proofs.run_chunks.put_run.Statement.{statement}
 use Rattle.writer.proofs.run_chunks.put_run.Tie as tie

@@ -3,7 +3,7 @@ use native.Mathlib.Omega.{arith}
 use lib.ListN.{length}
 use borrow.Author.Needs.{needs}
 use denote.Ref.{now}
-use Rattle.writer.proofs.Standing.{later, run-few, room}
+use Rattle.lengths.proofs.Standing.{later, run-few, room}
 use Rattle.writer.proofs.RunPut.{RunsPut, begin, run-room, turn, end}
 use Rattle.writer.proofs.run_chunks.put_runs.Statement.{statement}
 use Rattle.writer.proofs.run_chunks.put_runs.Tie as tie

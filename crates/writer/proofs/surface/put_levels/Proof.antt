@@ -7,7 +7,7 @@ use denote.Ref.{now}
 use Rattle.format.specs.Bytes.{joined}
 use Rattle.format.specs.Canonical.{bytes, vxBytes}
 use Rattle.writer.specs.Parts.{levelsBytes}
-use Rattle.writer.proofs.Ordered.{Ordered, begin, in-two, room, turn, end, Chunk, head-room, body-room, unpadded}
+use Rattle.output.proofs.Ordered.{Ordered, begin, in-two, room, turn, end, Chunk, head-room, body-room, unpadded}
 use Rattle.writer.proofs.SurfacePut.{levels-chunk}
 use Rattle.writer.proofs.surface.put_levels.Statement.{statement}
 use Rattle.writer.proofs.surface.put_levels.Tie as tie

@@ -3,7 +3,7 @@ use borrow.Author.Needs.{needs}
 use denote.Ref.{now}
 use Rattle.format.specs.Canonical.{bytes, chunkBytes}
 use Rattle.laws.proofs.Items.{length-bytes}
-use Rattle.writer.proofs.Ordered.{Chunk, head-room, body-room, unpadded, chunk-is}
+use Rattle.output.proofs.Ordered.{Chunk, head-room, body-room, unpadded, chunk-is}
 use Rattle.writer.proofs.surface.put_sides.Statement.{statement}
 use Rattle.writer.proofs.surface.put_sides.Tie as tie
 

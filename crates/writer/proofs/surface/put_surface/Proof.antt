@@ -5,8 +5,8 @@ use denote.Ref.{now}
 use Rattle.format.specs.Mesh.{Surface, surfaceFrom}
 use Rattle.format.specs.Canonical.{stringBytes, surfaceBytes}
 use Rattle.writer.specs.Parts.{surfaceChunk, valueBytes}
-use Rattle.writer.proofs.Filling.{nothing}
-use Rattle.writer.proofs.Ordered.{Ordered, begin, room, turn, end, Chunk, head-room, body-room, pad-room, chunk}
+use Rattle.output.proofs.Filling.{nothing}
+use Rattle.output.proofs.Ordered.{Ordered, begin, room, turn, end, Chunk, head-room, body-room, pad-room, chunk}
 use Rattle.writer.proofs.SurfacePut.{not-defined, surface-chunk, surface-parts, no-source}
 use Rattle.writer.proofs.surface.put_surface.Statement.{statement}
 use Rattle.writer.proofs.surface.put_surface.Tie as tie

@@ -6,7 +6,7 @@ use borrow.Author.Needs.{needs}
 use denote.Ref.{now}
 use Rattle.format.specs.Mesh.{surfaceFrom}
 use Rattle.writer.specs.Parts.{valueBytes}
-use Rattle.writer.proofs.Ordered.{Ordered, begin, room, turn, end}
+use Rattle.output.proofs.Ordered.{Ordered, begin, room, turn, end}
 use Rattle.writer.proofs.SurfacePut.{values, values-are}
 use Rattle.writer.proofs.surface.put_values.Statement.{statement}
 use Rattle.writer.proofs.surface.put_values.Tie as tie

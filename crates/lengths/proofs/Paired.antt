@@ -1,0 +1,55 @@
+-- The pairs of a PTAG by the surfaces of a run. Assumes nothing.
+use Prim.Native.Nat.{ℕ, suc, _+_, _-_, _<_, _≤_}
+use mathlib.Core.Path.{_≡_, refl, ap, _∙_}
+use mathlib.Core.List.{List, [], _∷_, _++_, map}
+use mathlib.Core.Bool.{Bool, true, false}
+use native.Mathlib.Numerals.{add-one}
+use native.Mathlib.Omega.{arith}
+use lib.Dec.{eqb}
+use lib.ListN.{length, drop, length-append}
+use borrow.Author.Tests.{eq-eqb, ne-eqb}
+use Rattle.format.specs.Bytes.{if_then_else_, joined}
+use Rattle.format.specs.Mesh.{Polygon, word, polygonSize}
+use Rattle.format.specs.Canonical.{bytes, vxBytes, pairsOf, pairBytes}
+use Rattle.mesh.specs.Lent.{entryAt, column}
+use Rattle.lengths.specs.Sizes.{pairOf, pairsFrom}
+use Rattle.lengths.proofs.Adding.{column-at, column-past}
+use Rattle.output.proofs.Filling.{First}
+
+-- they are the rule book's
+pub pairs-are : (i : ℕ) (ps : List Polygon) → joined (map pairBytes (pairsOf i ps)) ≡ pairsFrom i (map (λ p. p .surface) ps)
+unfolding pairsOf pairsFrom joined
+pairs-are i [] = refl
+pairs-are i (p ∷ ps) = go (eqb (p .surface) 0) (pairs-are (suc i) ps)
+  where
+    go : (b : Bool) → joined (map pairBytes (pairsOf (suc i) ps)) ≡ pairsFrom (suc i) (map (λ p. p .surface) ps)
+        → joined (map pairBytes ((if b then [] else (i, p .surface) ∷ []) ++ pairsOf (suc i) ps)) ≡ (if b then [] else pairBytes (i, p .surface)) ++ pairsFrom (suc i) (map (λ p. p .surface) ps)
+    go true later = later
+    go false later = ap (λ (l : List ℕ). pairBytes (i, p .surface) ++ l) later
+
+module _ (i at : ℕ) (ws : List ℕ) where
+  pub pairs-left : {s : ℕ} → s ≡ word 2 (entryAt polygonSize at ws) → polygonSize ≤ length ws - at
+      → First (pairsFrom i (column polygonSize 2 (drop at ws))) (pairOf i s) (pairsFrom (i + 1) (column polygonSize 2 (drop (at + polygonSize) ws)))
+  unfolding pairsFrom
+  pairs-left is fits = record { is = rw (column-at polygonSize 2 at ws (omega arith) fits, is, add-one) }
+
+  pub pairs-more : polygonSize ≤ length ws - at
+      → length (pairsFrom i (column polygonSize 2 (drop at ws))) ≡ length (pairOf i (word 2 (entryAt polygonSize at ws))) + length (pairsFrom (i + 1) (column polygonSize 2 (drop (at + polygonSize) ws)))
+  pairs-more fits = ap length (pairs-left refl fits .is) ∙ length-append (pairOf i (word 2 (entryAt polygonSize at ws))) (pairsFrom (i + 1) (column polygonSize 2 (drop (at + polygonSize) ws)))
+
+  pub pairs-done : length ws - at < polygonSize → pairsFrom i (column polygonSize 2 (drop at ws)) ≡ []
+  unfolding pairsFrom
+  pairs-done short = rw (column-past polygonSize 2 at ws short)
+
+-- ---- one of them
+
+module _ (i surface : ℕ) where
+  pub no-pair : surface ≡ 0 → pairOf i surface ≡ []
+  no-pair e = rw (eq-eqb surface 0 e)
+
+  pub a-pair : (surface ≡ 0 → ⊥) → pairOf i surface ≡ vxBytes i ++ bytes 2 (surface - 1)
+  unfolding pairBytes
+  a-pair e = rw (ne-eqb surface 0 e)
+
+  pub pair-parts : (surface ≡ 0 → ⊥) → length (pairOf i surface) ≡ length (vxBytes i) + length (bytes 2 (surface - 1))
+  pair-parts e = ap length (a-pair e) ∙ length-append (vxBytes i) (bytes 2 (surface - 1))

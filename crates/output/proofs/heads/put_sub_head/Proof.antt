@@ -1,0 +1,31 @@
+use mathlib.Core.List.{[], _∷_}
+use borrow.Author.Needs.{needs}
+use denote.Ref.{now}
+use Rattle.format.specs.Canonical.{bytes}
+use Rattle.laws.proofs.Items.{length-bytes}
+use Rattle.output.specs.Outputs.{headBytes}
+use Rattle.output.proofs.Ordered.{Ordered, begin, in-two, room, turn, end, low-two}
+use Rattle.output.proofs.heads.put_sub_head.Statement.{statement}
+use Rattle.output.proofs.heads.put_sub_head.Tie as tie
+
+started : (s : tie.Start) → Ordered (headBytes 2 (s .args .tag) (s .args .n)) (bytes 4 (s .args .tag) ∷ bytes 2 (s .args .n) ∷ []) (now (s .args .out)) (s .args .at) (now (s .args .out)) (s .args .at)
+started s = begin (in-two (bytes 4 (s .args .tag)) (bytes 2 (s .args .n))) (s .pre)
+
+put-u4-requires : tie.Need-put-u4-requires
+put-u4-requires c κs = rw length-bytes at (room (started (c .before .before)))
+
+put-u2-requires : tie.Need-put-u2-requires
+put-u2-requires c κs =
+    let u = c .before .before .before in
+    rw length-bytes at (room (turn (started (u .before .before .before)) (u .put-u4 .ensures)))
+
+returns : tie.Need-returns
+returns c =
+    let v = c .before .before in
+    let u = v .before .before .before .before in
+    let s = u .before .before .before in
+    end (turn (turn (started s) (u .put-u4 .ensures)) (rw (low-two (s .args .n)) at (v .put-u2 .ensures)))
+
+pub put-sub-head-spec : {M : Type 1} → statement M
+put-sub-head-spec =
+    tie.close (tie.spec put-u4-requires (λ c. search needs) put-u2-requires (λ c. search needs) returns)
