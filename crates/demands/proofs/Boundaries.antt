@@ -21,7 +21,7 @@ use Rattle.format.specs.Mesh.{Mesh}
 use Rattle.format.specs.Rules.{Before, start, after, judge, located, walk, form, judged, gives, rules}
 use Rattle.format.proofs.Verdicts.{then-fine, passed}
 use Rattle.format.proofs.Tiling as tiling
-use Rattle.laws.proofs.Facts.{every-at}
+use Rattle.format.proofs.Facts.{every-at}
 use Rattle.laws.proofs.Chunks.{chunkIn}
 use Rattle.laws.proofs.Form.{was-fine}
 use Rattle.demands.specs.Places.{Boundary, first, next, ChunkAt}

@@ -18,7 +18,7 @@ use Rattle.format.specs.Chunks.{sizeOf, lengthOf, wellFormed}
 use Rattle.format.specs.Rules.{kindOf, form, gives, rules}
 use Rattle.format.specs.Canonical.{bytes, chunkBytes, formBytes}
 use Rattle.format.specs.Answer.{Answer, answer, fits, filled}
-use Rattle.laws.proofs.Facts.{every-at}
+use Rattle.format.proofs.Facts.{every-at}
 use Rattle.laws.proofs.Room as room
 use Rattle.laws.proofs.Room.{Longer, more-room}
 use Rattle.reader.specs.declared.Answer.{Answer as ReadAnswer}

@@ -17,7 +17,7 @@ use Rattle.format.specs.Items.{Verdict, fine, fault, _then_}
 use Rattle.format.specs.Chunks.{chunks}
 use Rattle.format.specs.Bodies.{Part}
 use Rattle.format.specs.Rules.{start, walk, kindOf, form, judged, Outcome, refused, gives, outcome, rules}
-use Rattle.laws.proofs.Facts.{between-true}
+use Rattle.format.proofs.Facts.{between-true}
 use Rattle.demands.specs.Places.{ChunkAt}
 use Rattle.demands.specs.Demand1.{placedInChunk}
 use Rattle.demands.proofs.Boundaries.{FaultAt, Walked, walked-file}

@@ -1,12 +1,12 @@
 -- A loop that reads entries a number of times and keeps how many there were. Assumes nothing.
-use mathlib.Core.Path.{_≡_, refl, sym, ap, _∙_}
-use mathlib.Core.List.{List, [], _∷_}
-use Prim.Native.Nat.{ℕ, zero, suc, _+_, _-_, _*_, _≤_, _<_}
+use mathlib.Core.Path.{_≡_}
+use mathlib.Core.List.{List}
+use Prim.Native.Nat.{ℕ, _+_, _-_, _*_, _≤_, _<_}
 use native.Mathlib.Omega.{arith}
 use native.Mathlib.Nat.{add-mul, one-mul}
 use lib.ListN.{length, drop}
 use Rattle.format.specs.declared.Fault.{Fault}
-use Rattle.format.specs.Items.{Verdict, Got, fault, Reader, times}
+use Rattle.format.specs.Items.{fault, Reader, times}
 use Rattle.format.specs.Said.{keep, Says, Keeps, got, each}
 use Rattle.format.proofs.Entries.{Timing, times-begin, times-turn, times-stop, times-end}
 

@@ -8,3 +8,6 @@ pub mod Verdicts
 pub mod Walks
 pub mod Puts
 pub mod Tiling
+pub mod Facts
+pub mod Indexed
+pub mod Sameness

@@ -1,18 +1,19 @@
 -- What readers say at a place of a body, one after another, and of a whole body. Each answer of the code is shown by an expression that follows its path
 -- through the reader's `do`. Assumes nothing.
 use mathlib.Core.Path.{_≡_, refl, sym, ap, _∙_}
-use mathlib.Core.List.{List, []}
+use mathlib.Core.List.{List}
 use mathlib.Core.Bool.{Bool, true, false}
 use Prim.Native.Nat.{ℕ, _+_, _-_, _≤_, _<_}
 use native.Mathlib.Omega.{arith}
 use lib.ListN.{length, drop, length-drop, drop-of-length-le}
 use lib.Seq.{drop-cons, drop-length}
-use Rattle.format.specs.Bytes.{if_then_else_, empty}
+use Rattle.format.specs.Bytes.{if_then_else_}
 use Rattle.format.specs.declared.Fault.{Fault}
 use Rattle.format.specs.declared.Fault.the-variants.{WrongLength}
 use Rattle.format.specs.Items.{Verdict, fine, fault, Got, _then_, Reader, _>>=_, give, _or_unless_, whole}
 use Rattle.format.specs.Chunks.{headerOf, ofLength, unjudged}
 use Rattle.format.specs.Said.{keep, itself, Says, Moves, Keeps, JudgedAt, got}
+use Rattle.format.proofs.Facts.{impossible}
 
 -- ---- what is kept
 
@@ -40,11 +41,11 @@ module _ {A B : Type 0} where
       let place : next ≡ a .next = ap (λ g. g .next) same in
       let rest : drop next s ≡ a .left = ap (λ g. g .left) same in
       record { value = a .value; is = rw (rest, place); shows = sym (ap (λ g. g .value) same) }
-  met-in h (fault why at) e = absurd (let z : _≡_ {A = ℕ} 0 1 = cc in omega arith)
+  met-in h (fault why at) e = impossible cc
 
   stopped-in : (h : A → B) (v : Verdict (Got A)) {why : Fault} {p : ℕ} → fault why p ≡ keep h v → v ≡ fault why p
   unfolding _then_
-  stopped-in h (fine a) e = absurd (let z : _≡_ {A = ℕ} 0 1 = cc in omega arith)
+  stopped-in h (fine a) e = impossible cc
   stopped-in h (fault why at) e = cc
 
 keep-itself : {A : Type 0} (v : Verdict (Got A)) → v ≡ keep itself v
@@ -134,14 +135,14 @@ unfolding _or_unless_ _then_
 was-good r why ok {s} {at} {x} {next} w = by (r at (drop at s)) (exactly w)
   where
     by : (v : Verdict (Got _)) → (v then λ g. if ok (g .value) then fine g else fault why at) ≡ got s x next → ok x ≡ true
-    by (fault w p) e = absurd (let z : _≡_ {A = ℕ} 0 1 = cc in omega arith)
+    by (fault w p) e = impossible cc
     by (fine g) e = yes (ok (g .value)) refl e
       where
         yes : (b : Bool) → ok (g .value) ≡ b → (if b then fine g else fault why at) ≡ got s x next → ok x ≡ true
         yes true is q =
             let same : g ≡ record { value = x; next = next; left = drop next s } = cc in
             sym (ap (λ y. ok (y .value)) same) ∙ is
-        yes false is q = absurd (let z : _≡_ {A = ℕ} 0 1 = cc in omega arith)
+        yes false is q = impossible cc
 
 -- ---- a whole body
 

@@ -3,23 +3,23 @@ use mathlib.Core.Path.{_≡_, refl, sym, ap, _∙_}
 use mathlib.Core.List.{List, _∷_}
 use mathlib.Core.Bool.{Bool, true, false}
 use Prim.Native.Nat.{ℕ, _-_, _<_}
-use native.Mathlib.Omega.{arith}
 use lib.ListN.{length, drop}
 use Rattle.format.specs.Bytes.{if_then_else_, empty}
 use Rattle.format.specs.declared.Fault.{Fault}
 use Rattle.format.specs.declared.Fault.the-variants.{WrongLength}
 use Rattle.format.specs.Items.{Verdict, fine, fault, Got, _then_, Reader, _>>=_, give, _or_unless_, upTo, whole}
 use Rattle.format.specs.Said.{keep, itself, Says, Sound, got}
+use Rattle.format.proofs.Facts.{impossible}
 use Rattle.format.proofs.Saying.{exactly, good, bad}
 use Rattle.format.proofs.Entries.{Manying, once}
 
 pub sound-then : {A B : Type 0} (v : Verdict A) (f : A → Verdict B) → Sound (v then f) → (x : Sound v) × Sound (f (x .value))
 unfolding _then_
 sound-then (fine a) f w = (record { value = a; is = refl }, w)
-sound-then (fault why p) f w = absurd (let z : _≡_ {A = ℕ} 0 1 = cc (w .is) in omega arith)
+sound-then (fault why p) f w = impossible (cc (w .is))
 
 pub sound-not : {A : Type 0} {v : Verdict A} {why : Fault} {p : ℕ} → Sound v → v ≡ fault why p → ⊥
-sound-not w e = let z : _≡_ {A = ℕ} 0 1 = cc (w .is) in omega arith
+sound-not w e = impossible (cc (w .is))
 
 -- the first of two readers, and the second
 module _ {A B : Type 0} (r : Reader A) (k : A → Reader B) where
@@ -71,11 +71,11 @@ unfolding _then_ _>>=_
 many-sound {goal} {r} {s} {at} {f} t some w = by (r at (drop at s)) refl (sym (t .rest ∙ ap (keep f) (once t some)) ∙ w .is)
   where
     by : (v : Verdict (Got _)) → r at (drop at s) ≡ v → keep f (v then λ g. (upTo (t .fuel - 1) r (g .next) (g .left) then λ h. give (g .value ∷ h .value) (h .next) (h .left))) ≡ fine (w .value) → Entry r s at f (w .value .value)
-    by (fault why p) is e = absurd (let z : _≡_ {A = ℕ} 0 1 = cc in omega arith)
+    by (fault why p) is e = impossible cc
     by (fine g) is e = rest (upTo (t .fuel - 1) r (g .next) (g .left)) e
       where
         rest : (u : Verdict (Got (List _))) → keep f (u then λ h. give (g .value ∷ h .value) (h .next) (h .left)) ≡ fine (w .value) → Entry r s at f (w .value .value)
-        rest (fault why p) q = absurd (let z : _≡_ {A = ℕ} 0 1 = cc in omega arith)
+        rest (fault why p) q = impossible cc
         rest (fine h) q =
             let same : record { value = f (g .value ∷ h .value); next = h .next; left = h .left } ≡ w .value = cc in
             record { first = g; is = is; more = h .value; so = ap (λ y. y .value) same }

@@ -12,6 +12,7 @@ use Rattle.format.specs.declared.Fault.the-variants.{BadHeader}
 use Rattle.format.specs.Bytes.{if_then_else_, between, number, every, all}
 use Rattle.format.specs.Items.{Verdict, fine, fault, Got}
 use Rattle.format.specs.Chunks.{Chunk, sizeOf, lengthOf, wellFormed, chunkOf, Chunks, finished, broken, chunk, link, split, chunks}
+use Rattle.format.proofs.Facts.{impossible}
 
 fits : (a b c d : Bool) → every (a ∷ b ∷ c ∷ d ∷ []) ≡ true → c ≡ true
 unfolding every
@@ -35,7 +36,7 @@ framed at b g e = by (wellFormed 4 b) refl e
     read at = record { value = record { tag = number (take 4 b); body = take n (drop 8 b) }; next = at + sizeOf 4 n; left = drop (sizeOf 4 n) b }
 
     by : (t : Bool) → wellFormed 4 b ≡ t → (if t then fine (read at) else fault BadHeader at) ≡ fine g → Framed at b g
-    by false ok e = absurd (let z : _≡_ {A = ℕ} 0 1 = cc in omega arith)
+    by false ok e = impossible cc
     by true ok e =
         let room : sizeOf 4 n ≤ length b = leb-true _ _ (fits (leb 8 (length b)) (all (between 32 126) (take 4 b)) (leb (sizeOf 4 n) (length b)) _ ok) in
         let long : length (take n (drop 8 b)) ≡ n = rw (length-take n (drop 8 b), length-drop 8 b) (omega arith) in
@@ -48,7 +49,7 @@ unframed at b {why} {p} e = by (wellFormed 4 b) _ _ e
   where
     by : (t : Bool) (g g′ : Got Chunk) → (if t then fine g else fault BadHeader at) ≡ fault why p → (if t then fine g′ else fault BadHeader 0) ≡ fault BadHeader 0
     by false g g′ e = refl
-    by true g g′ e = absurd (let z : _≡_ {A = ℕ} 0 1 = cc in omega arith)
+    by true g g′ e = impossible cc
 
 -- ---- the bound of their number
 

@@ -2,10 +2,10 @@
 use mathlib.Core.Path.{_≡_, refl}
 use mathlib.Core.Bool.{Bool, true, false}
 use Prim.Native.Nat.{ℕ}
-use native.Mathlib.Omega.{arith}
 use Rattle.format.specs.declared.Fault.{Fault}
 use Rattle.format.specs.Bytes.{if_then_else_}
 use Rattle.format.specs.Items.{Verdict, fine, fault, _then_}
+use Rattle.format.proofs.Facts.{impossible}
 
 pub same-fine : {A : Type 0} {a b : A} → fine a ≡ fine b → a ≡ b
 same-fine e = cc
@@ -14,15 +14,15 @@ same-fine e = cc
 pub then-fine : {A B : Type 0} (v : Verdict A) (f : A → Verdict B) {x : B} → (v then f) ≡ fine x → (a : A) × (v ≡ fine a) × (f a ≡ fine x)
 unfolding _then_
 then-fine (fine a) f e = (a, refl, e)
-then-fine (fault why at) f e = absurd (let z : _≡_ {A = ℕ} 0 1 = cc in omega arith)
+then-fine (fault why at) f e = impossible cc
 
 -- a test without which there is a fault, and one with which there is
 pub chosen : {A : Type 0} (b : Bool) (v : Verdict A) (why : Fault) (at : ℕ) {x : A} → (if b then v else fault why at) ≡ fine x → (b ≡ true) × (v ≡ fine x)
 chosen true v why at e = (refl, e)
-chosen false v why at e = absurd (let z : _≡_ {A = ℕ} 0 1 = cc in omega arith)
+chosen false v why at e = impossible cc
 
 pub passed : {A : Type 0} (b : Bool) (v : Verdict A) (why : Fault) (at : ℕ) {x : A} → (if b then fault why at else v) ≡ fine x → (b ≡ false) × (v ≡ fine x)
-passed true v why at e = absurd (let z : _≡_ {A = ℕ} 0 1 = cc in omega arith)
+passed true v why at e = impossible cc
 passed false v why at e = (refl, e)
 
 -- ---- of which a part is kept
@@ -36,11 +36,11 @@ pub record Known {A B : Type 0} (v : Verdict A) (f : A → B) (y : B) : Type 0 w
 pub known : {A B : Type 0} (v : Verdict A) (f : A → B) {y : B} → fine y ≡ (v then λ x. fine (f x)) → Known v f y
 unfolding _then_
 known (fine x) f e = record { value = x; is = refl; shows = cc }
-known (fault why p) f e = absurd (let z : _≡_ {A = ℕ} 0 1 = cc in omega arith)
+known (fault why p) f e = impossible cc
 
 pub stopped : {A B : Type 0} (v : Verdict A) (f : A → B) {why : Fault} {at : ℕ} → fault why at ≡ (v then λ x. fine (f x)) → v ≡ fault why at
 unfolding _then_
-stopped (fine x) f e = absurd (let z : _≡_ {A = ℕ} 0 1 = cc in omega arith)
+stopped (fine x) f e = impossible cc
 stopped (fault why p) f e = cc
 
 pub then-same : {A B : Type 0} (v : Verdict A) (f g : A → B) → ((x : A) → f x ≡ g x) → (v then λ x. fine (f x)) ≡ (v then λ x. fine (g x))

@@ -2,13 +2,13 @@
 use mathlib.Core.Path.{_≡_}
 use mathlib.Core.List.{List, _∷_}
 use Prim.Native.Nat.{ℕ, _+_}
-use native.Mathlib.Omega.{arith}
 use lib.ListN.{length}
 use Rattle.format.specs.declared.Kind.{Kind}
 use Rattle.format.specs.Items.{Verdict, fine, fault}
 use Rattle.format.specs.Chunks.{sizeOf, Chunks, chunk}
 use Rattle.format.specs.Bodies.{Part}
 use Rattle.format.specs.Rules.{Before, after, judge, located, walk}
+use Rattle.format.proofs.Facts.{impossible}
 use Rattle.format.proofs.Verdicts.{same-fine, then-fine}
 
 -- what a chunk that was judged fine and the chunks after it contribute
@@ -22,7 +22,7 @@ pub record Next (kind : Kind) (b : Before) (place t : ℕ) (body : List ℕ) (re
 located-fine : (place : ℕ) (v : Verdict Part) {a : Part} → located place v ≡ fine a → v ≡ fine a
 unfolding located
 located-fine place (fine b) e = e
-located-fine place (fault why at) e = absurd (let z : _≡_ {A = ℕ} 0 1 = cc in omega arith)
+located-fine place (fault why at) e = impossible cc
 
 pub next : (kind : Kind) (b : Before) (place t : ℕ) (body : List ℕ) (rest : Chunks) (parts : List Part) → walk kind b place (chunk t body rest) ≡ fine parts → Next kind b place t body rest parts
 unfolding walk

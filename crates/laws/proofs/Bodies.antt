@@ -19,7 +19,7 @@ use Rattle.format.specs.Surfaces.{Value, value, sideNumber, lwo2Value, last, re
 use Rattle.format.specs.Bodies.{points, names, polygons, tagging, surface, point, wholePoints, pointsBody, newName, name, namesAfter, namesBody, vertex, countBits, lwo2Vertices, polygon, polygonType, polygonKind, polygonsBody, pair, taggingBody, surfaceName, surfaceBody}
 use Rattle.format.specs.Canonical.{bytes, vxBytes, stringBytes, chunkBytes, pointBytes, polygonBytes, typeOf, pairsOf, pairBytes, levelBytes, surfaceBytes}
 use Rattle.format.specs.Written.{goodPolygon, noZero, goodNames}
-use Rattle.laws.proofs.Facts.{every-at, all-first, all-rest, all-part, between-true, length-entries}
+use Rattle.format.proofs.Facts.{every-at, all-first, all-rest, all-part, between-true, length-entries}
 use Rattle.laws.proofs.Reading.{Reads, Ends, ends, reads-give, reads-then, ends-then, reads-as, ends-as, reads-unless, Row, none, more, reads-times, ends-many, rows, rows-same}
 use Rattle.laws.proofs.Items.{reads-item, length-bytes, reads-uint, word32, floats, reads-floats, reads-vx, reads-string}
 use Rattle.laws.proofs.Chunks.{isTag, more-sub, ends-of-length}

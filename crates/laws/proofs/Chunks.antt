@@ -15,7 +15,7 @@ use Rattle.format.specs.Bytes.{if_then_else_, number, spelt, between, every, al
 use Rattle.format.specs.Items.{fine, fault, Got, Reader, _then_}
 use Rattle.format.specs.Chunks.{Chunk, sizeOf, lengthOf, wellFormed, chunkOf, sub, ofLength}
 use Rattle.format.specs.Canonical.{bytes, chunkBytes}
-use Rattle.laws.proofs.Facts.{every-at}
+use Rattle.format.proofs.Facts.{every-at}
 use Rattle.format.proofs.Verdicts.{chosen}
 use Rattle.laws.proofs.Reading.{got, Reads, Ends, wholly, Row, more}
 use Rattle.laws.proofs.Items.{length-bytes, number-bytes, zeros}

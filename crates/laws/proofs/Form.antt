@@ -20,7 +20,7 @@ use Rattle.format.specs.Mesh.{Mesh}
 use Rattle.format.specs.Bodies.{Part}
 use Rattle.format.specs.Rules.{start, walk, kindOf, form, judged, outcome, Outcome, gives, rules}
 use Rattle.format.specs.Canonical.{bytes, formBytes}
-use Rattle.laws.proofs.Facts.{impossible, all-at, all-drop}
+use Rattle.format.proofs.Facts.{impossible, all-at, all-drop}
 use Rattle.format.proofs.Verdicts.{then-fine, chosen, passed}
 use Rattle.laws.proofs.Items.{number-bytes}
 

@@ -12,7 +12,7 @@ use Rattle.format.specs.Bytes.{if_then_else_, number, finite, all, joined}
 use Rattle.format.specs.Items.{Reader, _then_, _>>=_, item, uint, float, long, vx, toZero, stringSize, string}
 use Rattle.format.specs.Canonical.{bytes, vxBytes, stringBytes}
 use Rattle.format.specs.Written.{noZero}
-use Rattle.laws.proofs.Facts.{all-first, all-rest}
+use Rattle.format.proofs.Facts.{all-first, all-rest}
 use Rattle.laws.proofs.Reading.{Reads, reads-then, reads-as, reads-unless}
 
 -- ---- numbers

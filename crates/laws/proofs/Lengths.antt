@@ -11,7 +11,7 @@ use Rattle.format.specs.declared.Kind.the-variants.{LWO2}
 use Rattle.format.specs.Mesh.{Polygon, Name, Mesh}
 use Rattle.format.specs.Canonical.{bytes, vxBytes, stringBytes, chunkBytes, pointBytes, polygonBytes, typeOf, pairsOf, pairBytes, runs, unlessEmpty, runChunks, surfaceChunks, canonicalChunks, encoded, canonical}
 use Rattle.format.proofs.Puts.{total-append}
-use Rattle.laws.proofs.Facts.{length-entries}
+use Rattle.format.proofs.Facts.{length-entries}
 use Rattle.laws.proofs.Items.{length-bytes}
 use Rattle.laws.proofs.Bodies.{length-point, length-string, length-vx}
 use Rattle.laws.proofs.Polygons.{joined-runs}

@@ -1,4 +1,3 @@
-pub mod Facts
 pub mod Reading
 pub mod Items
 pub mod Chunks

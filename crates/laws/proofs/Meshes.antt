@@ -17,7 +17,7 @@ use Rattle.format.specs.Bodies.{Part, points, names, polygons, tagging, surface
 use Rattle.format.specs.Rules.{pointsOf, namesOf, detailsOf, skippedOf, surfacesOf, standing, meshOf, gives, outcome}
 use Rattle.format.specs.Canonical.{pairsOf, runs}
 use Rattle.format.specs.Written.{goodPolygon, goodNames, goodSurface, goodMesh}
-use Rattle.laws.proofs.Facts.{every-at, all-first, all-rest}
+use Rattle.format.proofs.Facts.{every-at, all-first, all-rest}
 use Rattle.laws.proofs.Bodies.{bare, valuesOf, good-name, record-back}
 use Rattle.laws.proofs.Polygons.{polygons-back}
 use Rattle.laws.proofs.Walk.{partsOf, unless, runParts, surfaceParts}

@@ -19,7 +19,7 @@ use Rattle.format.specs.Surfaces.{level, floatLevel, lwobValue, blockType, bloc
 use Rattle.format.specs.Mesh.{Name}
 use Rattle.format.specs.Bodies.{Part, point, pointsBody, name, namesAfter, namesBody, lwobVertices, detail, details, detailsAfter, face, facesBody, patch, patchesBody, lwo2Vertices, polygon, polygonsBody, pair, taggingBody, surfaceName, surfaceBody}
 use Rattle.format.specs.Rules.{Before, when_read_, judge}
-use Rattle.laws.proofs.Facts.{every-at}
+use Rattle.format.proofs.Facts.{every-at}
 
 -- what is left, or the place of a fault, is not past `most`
 abbrev Bounded : {A : Type 0} → (most : ℕ) → Verdict (Got A) → Type 0

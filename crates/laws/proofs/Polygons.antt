@@ -14,7 +14,7 @@ use Rattle.format.specs.Mesh.{Point, Polygon, Name, Surface, Mesh}
 use Rattle.format.specs.Bodies.{Part, points, names, polygons, tagging, surface}
 use Rattle.format.specs.Rules.{from, retag, tagged, polygonsIn}
 use Rattle.format.specs.Canonical.{pairsOf, ahead, runs}
-use Rattle.laws.proofs.Facts.{all-first, all-rest}
+use Rattle.format.proofs.Facts.{all-first, all-rest}
 use Rattle.laws.proofs.Bodies.{bare, valuesOf}
 use Rattle.laws.proofs.Walk.{partsOf, unless, runParts, surfaceParts}
 

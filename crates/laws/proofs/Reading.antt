@@ -9,7 +9,7 @@ use lib.ListN.{length, length-append}
 use Rattle.format.specs.Bytes.{joined, all}
 use Rattle.format.specs.declared.Fault.{Fault}
 use Rattle.format.specs.Items.{_then_, Verdict, fine, Got, Reader, give, _>>=_, _or_unless_, whole, times, upTo, many}
-use Rattle.laws.proofs.Facts.{all-first, all-rest}
+use Rattle.format.proofs.Facts.{all-first, all-rest}
 
 -- ---- what a reader reads back
 

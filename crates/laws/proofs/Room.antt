@@ -18,7 +18,7 @@ use Rattle.format.specs.Mesh.{Mesh, pointSize, polygonSize, recordSize, Tables,
 use Rattle.format.specs.Bodies.{Part}
 use Rattle.format.specs.Rules.{Outcome, refused, gives, judged, meshOf, outcome, rules}
 use Rattle.format.specs.Answer.{fits, Answer, answer, filled, tablesAfter}
-use Rattle.laws.proofs.Facts.{every-at}
+use Rattle.format.proofs.Facts.{every-at}
 
 -- ---- longer tables
 

@@ -16,7 +16,7 @@ use Rattle.format.specs.Bodies.{point, wholePoints, pointsBody}
 use Rattle.format.specs.Rules.{start, after, when_read_, judge, located, walk, kindOf, form, judged, pointsOf, namesOf, surfacesOf, skippedOf, detailsOf, standing, polygonsIn, meshOf, gives, outcome, rules}
 use Rattle.format.specs.Canonical.{bytes, chunkBytes, runs, unlessEmpty, surfaceChunks, canonicalChunks, formBytes, encoded, canonical}
 use Rattle.format.specs.Written.{goodNames, goodMesh}
-use Rattle.laws.proofs.Facts.{all-and}
+use Rattle.format.proofs.Facts.{all-and}
 use Rattle.laws.proofs.Items.{word32}
 use Rattle.laws.proofs.Tiles.{inFront, chunks-row}
 use Rattle.laws.proofs.Bodies.{goodPoint}

@@ -6,15 +6,16 @@ use mathlib.Core.Bool.{true, and-eq-true-iff}
 use native.Mathlib.Omega.{arith}
 use native.Mathlib.Nat.{div-add-mod', mul-div-cancel, mul-mod-left}
 use lib.Dec.{leb, eqb}
-use lib.ListN.{length, drop, getD, replicate, length-append, length-drop, take-append-drop, length-map}
-use lib.Seq.{drop-cons, drop-length, take-at, drop-at, length-take-le}
+use lib.ListN.{length, drop, getD, replicate, length-drop, take-append-drop, length-map}
+use lib.Seq.{drop-cons, drop-length, length-take-le}
 use borrow.Author.Tests.{le-leb, eq-eqb, eqb-true}
 use Rattle.format.specs.Bytes.{every, sum, joined}
 use Rattle.format.specs.Limits.{fileLimit, entryLimit}
 use Rattle.format.specs.Mesh.{pointWords, pointFrom, pointSize, Polygon, polygonWords, polygonSize, surfaceWords, surfaceFrom, recordSize, word, Mesh, Tables, tables}
 use Rattle.format.specs.Canonical.{canonical}
 use Rattle.format.specs.Written.{pieces, entries, polygonsFrom, vertexCounts, meshFrom, wholeEntries, goodMesh, isMesh}
-use Rattle.laws.proofs.Facts.{every-at, length-entries}
+use Rattle.format.proofs.Facts.{every-at, length-entries, length-joined}
+use Rattle.format.proofs.Indexed.{pieces-joined}
 use Rattle.laws.proofs.Meshes.{good}
 use Rattle.laws.proofs.Lengths.{Counts, counts}
 
@@ -33,16 +34,6 @@ length-pieces : {A : Type 0} (ns : List ℕ) (xs : List A) → sum ns ≡ length
 unfolding pieces sum
 length-pieces [] xs e = refl
 length-pieces (n ∷ ns) xs e = rw (length-take-le n xs (omega arith), length-pieces ns (drop n xs) (omega (arith, length-drop n xs)))
-
-pieces-joined : {A : Type 0} (xss : List (List A)) → pieces (map length xss) (joined xss) ≡ xss
-unfolding pieces joined
-pieces-joined [] = refl
-pieces-joined (xs ∷ xss) = rw (take-at xs (joined xss) (length xs) refl, drop-at xs (joined xss) (length xs) refl, pieces-joined xss)
-
-length-joined : {A : Type 0} (xss : List (List A)) → sum (map length xss) ≡ length (joined xss)
-unfolding joined sum
-length-joined [] = refl
-length-joined (xs ∷ xss) = omega (arith, length-append xs (joined xss), length-joined xss)
 
 -- ---- entries of n words
 

@@ -8,7 +8,7 @@ use Rattle.format.specs.Bytes.{joined}
 use Rattle.format.specs.Items.{Verdict, fine, fault, Got}
 use Rattle.format.specs.Chunks.{Chunk, chunkOf, Chunks, finished, chunk, link, split, chunks}
 use Rattle.format.proofs.Tiling as tiling
-use Rattle.laws.proofs.Facts.{impossible}
+use Rattle.format.proofs.Facts.{impossible}
 use Rattle.laws.proofs.Reading.{Reads, Row, none, more}
 use Rattle.laws.proofs.Chunks.{front}
 

@@ -3,7 +3,7 @@
 use Prim.Native.Nat.{ℕ, _+_, _≤_}
 use mathlib.Core.Path.{_≡_, refl, ap, _∙_}
 use mathlib.Core.List.{List, [], _∷_, _++_, map}
-use mathlib.Core.Bool.{true, not}
+use mathlib.Core.Bool.{true}
 use native.Mathlib.Omega.{arith}
 use native.Mathlib.Nat.{zero-add}
 use lib.ListN.{length, take, drop, length-append}
@@ -18,7 +18,7 @@ use Rattle.format.specs.Mesh.{Mesh, Polygon}
 use Rattle.format.specs.Bodies.{Part, points, names, polygons, tagging, surface, skipped}
 use Rattle.format.specs.Rules.{unlistedTag, Before, start, after, judge, walk, pointsOf, namesOf, surfacesOf, skippedOf, detailsOf, polygonsIn, meshOf, gives, form, outcome, rules}
 use Rattle.format.specs.Canonical.{formBytes}
-use Rattle.laws.proofs.Facts.{impossible, all-at}
+use Rattle.format.proofs.Facts.{impossible, all-at}
 use Rattle.format.proofs.Verdicts.{then-fine}
 use Rattle.format.proofs.Walks.{next}
 use Rattle.laws.proofs.Chunks.{chunkIn, reads-whole}

@@ -19,7 +19,7 @@ use Rattle.format.specs.Bodies.{Part, points, names, polygons, tagging, surface
 use Rattle.format.specs.Rules.{Before, start, after, count, when_read_, judge, located, walk}
 use Rattle.format.specs.Canonical.{stringBytes, pointBytes, polygonBytes, typeOf, pairsOf, pairBytes, surfaceBytes, runs, unlessEmpty, runChunks, surfaceChunks, encoded}
 use Rattle.format.specs.Written.{goodPolygon, goodNames, goodSurface}
-use Rattle.laws.proofs.Facts.{every-at, all-first, all-rest, all-append}
+use Rattle.format.proofs.Facts.{every-at, all-first, all-rest, all-append}
 use Rattle.laws.proofs.Reading.{wholly, Row, none, more}
 use Rattle.laws.proofs.Items.{word32}
 use Rattle.laws.proofs.Chunks.{isTag, shorter, reads-chunk}

@@ -16,7 +16,7 @@ use Rattle.format.specs.Rules.{gives, rules}
 use Rattle.format.specs.Answer.{answer, fits, over, filled, tablesAfter}
 use Rattle.format.specs.Canonical.{canonical}
 use Rattle.format.specs.Written.{meshFrom, goodMesh, isMesh, says, written, outputAfter}
-use Rattle.laws.proofs.Facts.{all-append, all-part}
+use Rattle.format.proofs.Facts.{all-append, all-part}
 use Rattle.laws.proofs.Items.{word32}
 use Rattle.laws.proofs.RoundTrip.{inWords, round-trip}
 use Rattle.laws.proofs.Tables.{good-tables, tables-back, mesh-from-tables, tables-of-mesh}

@@ -8,7 +8,7 @@ use borrow.Author.Tests.{eq-eqb, ne-eqb}
 use Rattle.format.specs.Bytes.{sum, joined}
 use Rattle.format.specs.Mesh.{word, polygonSize, recordSize}
 use Rattle.mesh.specs.Lent.{entryAt, column}
-use Rattle.mesh.proofs.Passing.{at-index, past-end}
+use Rattle.format.proofs.Indexed.{at-index, past-end}
 use Rattle.mesh.proofs.Entries.{entries-at, entries-past}
 use Rattle.output.specs.Outputs.{total}
 use Rattle.lengths.specs.Sizes.{Counted, leading, surfaceSize, surfacesSize}

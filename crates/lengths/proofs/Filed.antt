@@ -10,7 +10,7 @@ use Rattle.format.specs.Items.{stringSize}
 use Rattle.format.specs.Mesh.{pointSize, recordSize, pointFrom, surfaceFrom, lent}
 use Rattle.format.specs.Canonical.{stringBytes, pointBytes, runs, unlessEmpty, runChunks, surfaceChunks, canonicalChunks, encoded, canonical}
 use Rattle.format.specs.Written.{pieces, entries, meshFrom}
-use Rattle.laws.proofs.Facts.{length-entries}
+use Rattle.format.proofs.Facts.{length-entries}
 use Rattle.laws.proofs.Bodies.{length-point}
 use Rattle.laws.proofs.Form.{length-form}
 use Rattle.mesh.specs.Lent.{column, polygonsOf}

@@ -10,7 +10,7 @@ use Rattle.format.specs.Mesh.{word, polygonSize}
 use Rattle.format.specs.Canonical.{runs}
 use Rattle.format.specs.Written.{vertexCounts}
 use Rattle.mesh.specs.Lent.{entryAt, column, polygonsOf}
-use Rattle.mesh.proofs.Entries.{part}
+use Rattle.format.proofs.Indexed.{part}
 use Rattle.lengths.specs.Sizes.{Counted, leading, PolygonsLent}
 use Rattle.lengths.proofs.Running.{counts-at, runs-at}
 

@@ -13,7 +13,7 @@ use Rattle.format.specs.Mesh.{Polygon, Mesh, Tables, polygonWords, polygonSize,
 use Rattle.format.specs.Written.{pieces, entries, polygonsFrom, vertexCounts, meshFrom}
 use Rattle.format.specs.Rules.{Outcome, refused, gives, rules}
 use Rattle.format.specs.Answer.{answer, fits, over, filled, tablesAfter}
-use Rattle.laws.proofs.Facts.{length-entries}
+use Rattle.format.proofs.Facts.{length-entries}
 use Rattle.laws.proofs.Tables.{mesh-from-tables}
 use Rattle.mesh.specs.Lent.{polygonsOf}
 use Rattle.mesh.proofs.Entries.{first}

@@ -10,7 +10,8 @@ use Rattle.format.specs.Bytes.{sum}
 use Rattle.format.specs.Mesh.{word, polygonSize}
 use Rattle.format.specs.Written.{vertexCounts}
 use Rattle.mesh.specs.Lent.{entryAt, polygonsOf}
-use Rattle.mesh.proofs.Entries.{part, sum-at, polygons-at, polygons-past}
+use Rattle.format.proofs.Indexed.{part}
+use Rattle.mesh.proofs.Entries.{sum-at, polygons-at, polygons-past}
 use Rattle.listing.specs.Text.{polygonLine, polygonLines}
 use Rattle.listing.specs.Prints.{Prints, PolygonsLent, lineSize, linesSize}
 use Rattle.listing.proofs.Printing as printing

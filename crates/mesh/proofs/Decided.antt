@@ -9,9 +9,9 @@ use lib.ListN.{length, length-map}
 use borrow.Author.Tests.{eqb-true, leb-true}
 use Rattle.format.specs.Bytes.{every, all, sum, finite}
 use Rattle.format.specs.Limits.{entryLimit}
-use Rattle.format.specs.Mesh.{pointWords, pointFrom, pointSize, polygonSize, recordSize, word, surfaceFrom, Tables, lent}
+use Rattle.format.specs.Mesh.{pointWords, pointFrom, pointSize, polygonSize, recordSize, surfaceFrom, Tables, lent}
 use Rattle.format.specs.Written.{entries, pieces, vertexCounts, meshFrom, wholeEntries, goodPolygon, goodNames, goodSurface, goodMesh, isMesh}
-use Rattle.laws.proofs.Facts.{every-at}
+use Rattle.format.proofs.Facts.{every-at}
 use Rattle.mesh.specs.Lent.{column, polygonsOf, surfacesOf, wholeTables, countsAgree}
 use Rattle.mesh.proofs.Passing.{passed, failed}
 use Rattle.mesh.proofs.Entries.{first, length-pieces, length-entries}

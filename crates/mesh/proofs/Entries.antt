@@ -11,11 +11,6 @@ use Rattle.format.specs.Bytes.{sum}
 use Rattle.format.specs.Mesh.{word, polygonFrom, polygonSize, surfaceFrom, recordSize}
 use Rattle.format.specs.Written.{pieces, entries, polygonsFrom}
 use Rattle.mesh.specs.Lent.{entryAt, column, polygonsOf, surfacesOf}
-use Rattle.mesh.proofs.Passing.{at-index}
-
--- a slice from a place to n further on
-pub part : {A : Type 0} (at n : ℕ) (xs : List A) → take (at + n - at) (drop at xs) ≡ take n (drop at xs)
-part at n xs = let e : at + n - at ≡ n = omega arith in rw e
 
 pub first : (n : ℕ) (ws : List ℕ) → 0 < n → n ≤ length ws → entries n ws ≡ take n ws ∷ entries n (drop n ws)
 unfolding entries pieces
@@ -33,21 +28,12 @@ entries-at n at ws some fits = let long = length-drop at ws in rw (first n (drop
 pub entries-past : (n at : ℕ) (ws : List ℕ) → length ws - at < n → entries n (drop at ws) ≡ []
 entries-past n at ws short = let long = length-drop at ws in entries-none n (drop at ws) (omega arith)
 
--- ---- pieces, whose lengths are walked by an index
-
-pub pieces-at : {A : Type 0} (i at : ℕ) (ns : List ℕ) (xs : List A) → i < length ns
-    → pieces (drop i ns) (drop at xs) ≡ take (getD ns i 0) (drop at xs) ∷ pieces (drop (i + 1) ns) (drop (at + getD ns i 0) xs)
-unfolding pieces
-pieces-at i at ns xs inside = rw (at-index ns i inside, drop-drop (getD ns i 0) at xs)
+-- ---- one more piece
 
 pub pieces-snoc : {A : Type 0} (ns : List ℕ) (n : ℕ) (xs : List A) → pieces (ns ++ (n ∷ [])) xs ≡ pieces ns xs ++ (take n (drop (sum ns) xs) ∷ [])
 unfolding pieces sum
 pieces-snoc [] n xs = refl
 pieces-snoc (m ∷ ns) n xs = rw (pieces-snoc ns n (drop m xs), drop-drop (sum ns) m xs)
-
-pub sum-index : (i : ℕ) (ns : List ℕ) → i < length ns → sum (drop i ns) ≡ getD ns i 0 + sum (drop (i + 1) ns)
-unfolding sum
-sum-index i ns inside = rw (at-index ns i inside)
 
 pub sum-snoc : (ns : List ℕ) (n : ℕ) → sum (ns ++ (n ∷ [])) ≡ sum ns + n
 unfolding sum

@@ -10,7 +10,7 @@ use Rattle.format.specs.Bytes.{sum}
 use Rattle.format.specs.Limits.{entryLimit}
 use Rattle.format.specs.Mesh.{pointSize, polygonSize, recordSize, surfaceFrom, lent}
 use Rattle.format.specs.Written.{entries, vertexCounts, meshFrom, goodMesh, isMesh}
-use Rattle.laws.proofs.Facts.{every-at}
+use Rattle.format.proofs.Facts.{every-at}
 use Rattle.mesh.proofs.Entries.{length-pieces, length-entries}
 use Rattle.mesh.proofs.Decided.{limits}
 

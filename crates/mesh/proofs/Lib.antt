@@ -1,6 +1,5 @@
 pub mod Passing
 pub mod Entries
-pub mod Sameness
 pub mod Summing
 pub mod Walking
 pub mod Naming

@@ -11,8 +11,8 @@ use Rattle.format.specs.Bytes.{if_then_else_, sum, same, amongst}
 use Rattle.format.specs.Mesh.{Name}
 use Rattle.format.specs.Written.{pieces, goodNames}
 use Rattle.mesh.specs.Lent.{goodName}
-use Rattle.mesh.proofs.Passing.{past-end}
-use Rattle.mesh.proofs.Entries.{part, pieces-at, pieces-snoc, sum-index, sum-snoc}
+use Rattle.format.proofs.Indexed.{past-end, part, pieces-at, sum-index}
+use Rattle.mesh.proofs.Entries.{pieces-snoc, sum-snoc}
 
 -- ---- a name amongst others
 

@@ -1,11 +1,7 @@
 -- A loop that asks whether all elements of a list pass a test: those that are left decide. Assumes nothing.
-use Prim.Native.Nat.{ℕ, _+_, _<_, _≤_}
 use mathlib.Core.Path.{_≡_, refl, sym, _∙_}
 use mathlib.Core.List.{List, [], _∷_}
 use mathlib.Core.Bool.{Bool, true, false, not}
-use native.Mathlib.Numerals.{add-one}
-use lib.ListN.{length, getD, drop, drop-of-length-le}
-use lib.Seq.{drop-cons}
 use borrow.Author.Tests.{not-true, not-false}
 use Rattle.format.specs.Bytes.{all}
 
@@ -36,11 +32,3 @@ passed {b} is test = sym is ∙ not-false b test
 
 pub failed : {b x : Bool} → b ≡ x → not b ≡ true → x ≡ false
 failed {b} is test = sym is ∙ not-true b test
-
--- ---- a list that is walked by an index
-
-pub at-index : (xs : List ℕ) (i : ℕ) → i < length xs → drop i xs ≡ getD xs i 0 ∷ drop (i + 1) xs
-at-index xs i inside = rw add-one (drop-cons xs i 0 inside)
-
-pub past-end : (xs : List ℕ) (i : ℕ) → length xs ≤ i → drop i xs ≡ []
-past-end xs i outside = drop-of-length-le xs {i = i} outside

@@ -10,9 +10,10 @@ use Rattle.format.specs.Bytes.{all}
 use Rattle.format.specs.Mesh.{recordSize, surfaceFrom, surfaceWords, levels}
 use Rattle.format.specs.Written.{goodSurface}
 use Rattle.mesh.specs.Lent.{entryAt, surfacesOf}
+use Rattle.format.proofs.Indexed.{part}
 use Rattle.mesh.proofs.Passing as passing
 use Rattle.mesh.proofs.Passing.{Passing}
-use Rattle.mesh.proofs.Entries.{part, surfaces-at, surfaces-past}
+use Rattle.mesh.proofs.Entries.{surfaces-at, surfaces-past}
 
 -- ---- the words of one
 

@@ -9,9 +9,10 @@ use Rattle.format.specs.Bytes.{sum, all}
 use Rattle.format.specs.Mesh.{word, polygonSize, polygonFrom}
 use Rattle.format.specs.Written.{goodPolygon, vertexCounts}
 use Rattle.mesh.specs.Lent.{entryAt, polygonsOf}
+use Rattle.format.proofs.Indexed.{part}
 use Rattle.mesh.proofs.Passing as passing
 use Rattle.mesh.proofs.Passing.{Passing}
-use Rattle.mesh.proofs.Entries.{part, sum-at, polygons-at, polygons-past}
+use Rattle.mesh.proofs.Entries.{sum-at, polygons-at, polygons-past}
 
 pub record Walking (ws vs : List ℕ) (points names at first : ℕ) : Type 0 where
   pub inside : at ≤ length ws

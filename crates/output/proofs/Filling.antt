@@ -13,9 +13,9 @@ use Rattle.format.specs.Canonical.{bytes, vxBytes, stringBytes}
 use Rattle.format.specs.Written.{pieces}
 use Rattle.format.proofs.Puts.{put-none, put-snoc, put-append}
 use Rattle.laws.proofs.Items.{length-bytes}
-use Rattle.laws.proofs.Facts.{all-first, all-drop}
-use Rattle.mesh.proofs.Passing.{at-index, past-end}
-use Rattle.mesh.proofs.Entries.{part, pieces-at}
+use Rattle.format.proofs.Facts.{all-first, all-drop}
+use Rattle.format.proofs.Indexed.{at-index, past-end}
+use Rattle.format.proofs.Indexed.{part, pieces-at}
 use Rattle.output.specs.Outputs.{Wrote}
 
 pub nothing : {t : List ℕ} {at : ℕ} → Wrote t at [] t at

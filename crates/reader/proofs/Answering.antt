@@ -1,18 +1,16 @@
 -- From the first pass, the test of room and the second pass to the rule book's answer and tables. Assumes nothing.
-use mathlib.Core.Path.{_≡_, refl, sym, ap, _∙_}
+use mathlib.Core.Path.{_≡_, sym, ap, _∙_}
 use mathlib.Core.List.{List, map}
 use mathlib.Core.Bool.{Bool, true, false}
 use Prim.Native.Nat.{ℕ, _≤_}
-use native.Mathlib.Omega.{arith}
 use lib.Dec.{ltb}
 use lib.ListN.{length, drop}
 use borrow.Author.Tests.{ltb-false}
 use Rattle.format.specs.declared.Kind.{Kind}
-use Rattle.format.specs.declared.Fault.the-variants.{FileTooLong}
-use Rattle.format.specs.Bytes.{if_then_else_, sum}
+use Rattle.format.specs.Bytes.{sum}
 use Rattle.format.specs.Limits.{fileLimit}
 use Rattle.format.specs.Refusals.{numberOf}
-use Rattle.format.specs.Items.{Verdict, fine, fault}
+use Rattle.format.specs.Items.{fine}
 use Rattle.format.specs.Chunks.{chunks}
 use Rattle.format.specs.Mesh.{Tables}
 use Rattle.format.specs.Bodies.{Part}

@@ -3,7 +3,6 @@ use mathlib.Core.Path.{_≡_, refl, ap, subst, _∙_}
 use mathlib.Core.List.{List}
 use mathlib.Core.Bool.{Bool, true, false}
 use Prim.Native.Nat.{ℕ}
-use native.Mathlib.Omega.{arith}
 use lib.ListN.{length, drop}
 use Rattle.format.specs.declared.Kind.{Kind}
 use Rattle.format.specs.declared.Fault.the-variants.{WrongLength, OutOfOrder}
@@ -13,6 +12,7 @@ use Rattle.format.specs.Chunks.{headerOf, ofLength}
 use Rattle.format.specs.Said.{nothing, Judged}
 use Rattle.format.specs.Bodies.{Part, skipped, pointsBody, namesBody, facesBody, patchesBody, polygonsBody, taggingBody, surfaceBody}
 use Rattle.format.specs.Rules.{when_read_}
+use Rattle.format.proofs.Facts.{impossible}
 use Rattle.bodies.specs.Answers.{pointCount, nameSizes, sizesOf}
 use Rattle.survey.specs.declared.counts.Counted.{Counted}
 use Rattle.survey.specs.declared.chunk.Judgement.{Judgement}
@@ -33,7 +33,7 @@ module _ {A : Type 0} (P : A → Type 0) where
     where
       by : (v : Verdict (Got _)) (g : Got A) → (v then λ x. k (x .value) (x .next) (x .left)) ≡ fine g → P (g .value)
       by (fine x) g e = later (x .value) .each (x .next) (x .left) g e
-      by (fault why p) g e = absurd (let z : _≡_ {A = ℕ} 0 1 = cc in omega arith)
+      by (fault why p) g e = impossible cc
 
   pub makes-length : (width : ℕ) (ok : ℕ → Bool) {r : Reader A} → Makes P r → Makes P (ofLength width ok r)
   unfolding ofLength
@@ -41,7 +41,7 @@ module _ {A : Type 0} (P : A → Type 0) where
     where
       by : (at : ℕ) (b : List ℕ) (g : Got A) (t : Bool) → (if t then r at b else fault WrongLength (headerOf width at)) ≡ fine g → P (g .value)
       by at b g true e = w .each at b g e
-      by at b g false e = absurd (let z : _≡_ {A = ℕ} 0 1 = cc in omega arith)
+      by at b g false e = impossible cc
 
 -- what a body adds to the counts is f of the part that its function keeps
 pub record Adds {B : Type 0} (f : B → Counted) (h : Part → B) (r : Reader Part) : Type 0 where

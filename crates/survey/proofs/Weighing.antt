@@ -19,6 +19,7 @@ use Rattle.format.specs.Said.{nothing}
 use Rattle.format.specs.Mesh.{Name, Polygon}
 use Rattle.format.specs.Bodies.{Part, names, skipped, point, pointsBody, name, namesAfter, namesBody, lwobVertices, detail, details, detailsAfter, face, facesBody, patch, patchesBody, lwo2Vertices, polygon, polygonsBody}
 use Rattle.format.specs.Rules.{Before, when_read_, judge}
+use Rattle.format.proofs.Facts.{impossible}
 use Rattle.format.proofs.Sounding.{sound-whole}
 use Rattle.bodies.specs.Answers.{sizesOf}
 use Rattle.survey.specs.declared.counts.Counted.{Counted}
@@ -232,7 +233,7 @@ pub record Light (judged : List ℕ → Verdict Part) : Type 0 where
 module _ (r : Reader Part) where
   light-body : ((b : List ℕ) (g : Got Part) → r 8 b ≡ fine g → weightOf (g .value) ≤ length b) → (ok : Bool) → Light (when ok read r)
   unfolding when_read_
-  light-body few false = record { each = λ b p e. absurd (let z : _≡_ {A = ℕ} 0 1 = cc in omega arith) }
+  light-body few false = record { each = λ b p e. impossible cc }
   light-body few true = record { each = λ b p e. let u = sound-whole r 0 8 b (record { value = p; is = e }) in let same : p ≡ u .got .value = cc in rw same (omega (arith, few b (u .got) (u .is))) }
 
   light-uses : (ok : Bool) → Uses r weightOf 0 → Light (when ok read r)

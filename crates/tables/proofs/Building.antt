@@ -11,7 +11,7 @@ use Rattle.format.specs.Items.{fine}
 use Rattle.format.specs.Chunks.{chunks}
 use Rattle.format.specs.Mesh.{Polygon, Name}
 use Rattle.format.specs.Bodies.{Part, points, names, polygons, tagging, surface, skipped}
-use Rattle.format.specs.Rules.{Before, after, count, namesOf, from, polygonsIn}
+use Rattle.format.specs.Rules.{Before, after, judge, count, namesOf, from, polygonsIn}
 use Rattle.format.proofs.Verdicts.{same-fine}
 use Rattle.format.proofs.Puts.{total-append}
 use Rattle.wire.specs.declared.cursor.Cursor.{Cursor}
@@ -23,7 +23,8 @@ use Rattle.tables.specs.Fills.{allNames, allPolygons, verticesOf, Polygo
 use Rattle.tables.specs.Held.{Held, nothingHeld, endOf, heldPolygons, heldAfter, nothingLatest, Stands, PartRoom, PartPut}
 use Rattle.survey.proofs.Standing.{long}
 use Rattle.survey.proofs.Weighing.{light-judge}
-use Rattle.tables.proofs.Walking.{Left, Turn, none-left, this as turn-of}
+use Rattle.tables.proofs.Walking as walk
+use Rattle.tables.proofs.Walking.{Walking, Turn, none-left, walked}
 use Rattle.tables.proofs.Once.{no-more-names, first-names}
 use Rattle.tables.proofs.Placing.{same-vertices, same-length, placed-none}
 
@@ -103,23 +104,26 @@ names-after b skipped more first = refl
 
 -- ---- the walk
 
--- The parts so far come to `held`, and those that follow are left from here on. The points are no more than the bytes that were passed.
+-- the parts `done` come to `held`, by which the next chunk is judged; the points are no more than the bytes that were passed
 pub record Building (kind : Kind) (file : List ℕ) (nameCount : ℕ) (words₀ vertices₀ words vertices : List ℕ) (at : ℕ) (l : Latest) : Type 0 where
   pub room : PolygonsRoom kind file nameCount words₀ vertices₀
+  pub done : List Part
+  pub walking : Walking kind file (room .parts) done at
   pub held : Held
-  pub more : List Part
-  pub left : Left kind file at (held .before) more
-  pub all : allFrom held more ≡ allPolygons (room .parts)
-  pub named : count (held .before .names) + length (allNames more) ≡ nameCount
+  pub judged-by : held .before ≡ walking .before
+  pub all : allFrom held (walking .more) ≡ allPolygons (room .parts)
+  pub named : count (held .before .names) + length (allNames (walking .more)) ≡ nameCount
   pub few : endOf held ≤ at
   pub stands : Stands held l words₀ words vertices₀ vertices
 
 pub begin : {kind : Kind} {file : List ℕ} {nameCount : ℕ} {words vertices : List ℕ} {l : Latest} → PolygonsRoom kind file nameCount words vertices → l ≡ nothingLatest → Building kind file nameCount words vertices words vertices 12 l
+unfolding walk.begin
 begin {words = words} {vertices} r e = record {
   room = r;
+  done = [];
+  walking = walk.begin (r .sound);
   held = nothingHeld;
-  more = r .parts;
-  left = record { judged = r .sound };
+  judged-by = refl;
   all = refl;
   named = omega (arith, r .names-are);
   few = omega arith;
@@ -130,40 +134,43 @@ module _ {kind : Kind} {file : List ℕ} {nameCount : ℕ} {words₀ vertices₀
   pub end : length file ≤ at → PolygonsPut kind file words₀ words vertices₀ vertices
   unfolding polygonsIn
   end h =
-      let whole-list : heldPolygons (f .held) ≡ allPolygons (f .room .parts) = rw (none-left (f .left) h) at (f .all) in
+      let whole-list : heldPolygons (f .held) ≡ allPolygons (f .room .parts) = rw (none-left (f .walking) h) at (f .all) in
       record {
         put-words = λ parts e. rw (same-fine (sym e ∙ f .room .sound), ← whole-list) (f .stands .placed .put-words);
         put-vertices = λ parts e. rw (same-fine (sym e ∙ f .room .sound), ← whole-list) (f .stands .placed .put-vertices);
       }
 
   module _ {tag : ℕ} {last : ℕ} {c : Cursor} (h : HeaderAt 4 file at (Header.Got tag last c)) where
-    this : Turn kind file (f .held .before) (f .more) tag (take (last - at) (drop at file)) (c .at)
-    this = turn-of (f .left) h
+    this : Turn (f .walking) tag (take (last - at) (drop at file)) (c .at)
+    this = walk.turn (f .walking) h
+
+    sound : judge kind (f .held .before) tag (drop 8 (take (last - at) (drop at file))) ≡ fine (this .part)
+    sound = ap (λ b. judge kind b tag (drop 8 (take (last - at) (drop at file)))) (f .judged-by) ∙ this .here
 
     abbrev later : Held
     later = heldAfter (f .held) (this .part)
 
-    later-left : Left kind file (c .at) (later .before) (this .later)
-    later-left = rw (same-before (f .held) (this .part)) (this .left)
+    later-judged : later .before ≡ after (f .walking .before) (this .part)
+    later-judged = same-before (f .held) (this .part) ∙ ap (λ b. after b (this .part)) (f .judged-by)
 
     later-all : allFrom later (this .later) ≡ allPolygons (f .room .parts)
     later-all = one-part (f .held) (this .part) (this .later) ∙ ap (allFrom (f .held)) (this .both) ∙ f .all
 
     later-named : count (later .before .names) + length (allNames (this .later)) ≡ nameCount
     later-named =
-        let first : (ns : List Name) → this .part ≡ names ns → f .held .before .names ≡ none = λ ns e. first-names kind (f .held .before) tag _ ns (this .sound ∙ ap fine e) in
-        let parts : length (allNames (this .part ∷ this .later)) ≡ length (allNames (f .more)) = ap (λ ps. length (allNames ps)) (this .both) in
+        let first : (ns : List Name) → this .part ≡ names ns → f .held .before .names ≡ none = λ ns e. first-names kind (f .held .before) tag _ ns (sound ∙ ap fine e) in
+        let parts : length (allNames (this .part ∷ this .later)) ≡ length (allNames (f .walking .more)) = ap (λ ps. length (allNames ps)) (this .both) in
         rw (same-before (f .held) (this .part)) (omega (arith, names-after (f .held .before) (this .part) (this .later) first, parts, f .named))
 
     later-few : endOf later ≤ c .at
     later-few =
-        let w = light-judge kind (f .held .before) tag .each _ (this .part) (this .sound) in
+        let w = light-judge kind (f .held .before) tag .each _ (this .part) sound in
         omega (arith, f .few, w, end-after (f .held) (this .part), length-drop 8 (take (last - at) (drop at file)), long h, h .inside)
 
     -- a file lists its names once at most, so that none follow
     all-names : (n : ℕ) → later .before .names ≡ some n → n ≡ nameCount
     all-names n e =
-        let none-follow = no-more-names kind (later .before) n (c .at) (chunks (drop (c .at) file)) (this .later) e (later-left .judged) in
+        let none-follow = no-more-names kind (later .before) n (c .at) (chunks (drop (c .at) file)) (this .later) e (rw later-judged (this .onward)) in
         omega (arith, rw (e, none-follow) at later-named)
 
     pub part-room : PartRoom kind tag (take (last - at) (drop at file)) nameCount l words vertices
@@ -172,7 +179,7 @@ module _ {kind : Kind} {file : List ℕ} {nameCount : ℕ} {words₀ vertices₀
         record {
           held = f .held;
           part = this .part;
-          sound = this .sound;
+          sound = sound;
           words₀ = words₀;
           vertices₀ = vertices₀;
           stands = f .stands;
@@ -183,5 +190,5 @@ module _ {kind : Kind} {file : List ℕ} {nameCount : ℕ} {words₀ vertices₀
         }
 
     pub turn : {words′ vertices′ : List ℕ} {l′ : Latest} → PartPut kind tag (take (last - at) (drop at file)) nameCount l words words′ vertices vertices′ l′ → Building kind file nameCount words₀ vertices₀ words′ vertices′ (c .at) l′
-    unfolding part-room
-    turn w = record { room = f .room; held = later; more = this .later; left = later-left; all = later-all; named = later-named; few = later-few; stands = w .put part-room }
+    unfolding part-room walked
+    turn w = record { room = f .room; done = f .done ++ (this .part ∷ []); walking = walked (f .walking) this; held = later; judged-by = later-judged; all = later-all; named = later-named; few = later-few; stands = w .put part-room }

@@ -1,27 +1,27 @@
 -- One chunk after those whose polygons stand in the tables. Assumes nothing.
 use mathlib.Core.Path.{_≡_, refl, sym, subst, _∙_}
-use mathlib.Core.List.{List, [], _∷_, map}
+use mathlib.Core.List.{List, map}
 use mathlib.Core.Bool.{true, false}
 use Prim.Native.Nat.{ℕ, _+_, _-_, _*_, _/_, _≤_, _<_, _^_}
 use native.Mathlib.Omega.{arith}
 use lib.ListN.{length, drop, length-append, length-map}
 use Rattle.format.specs.declared.Kind.{Kind}
 use Rattle.format.specs.declared.Kind.the-variants.{LWOB, LWO2}
-use Rattle.format.specs.Bytes.{if_then_else_, _is_, joined}
+use Rattle.format.specs.Bytes.{if_then_else_, _is_}
 use Rattle.format.specs.Items.{fine, Reader, whole}
-use Rattle.format.specs.Mesh.{Point, Polygon, pointWords, polygonSize}
-use Rattle.format.specs.Bodies.{Part, names, tagging, skipped, namesBody, taggingBody, surfaceBody}
+use Rattle.format.specs.Mesh.{Polygon, pointWords, pointSize, polygonSize}
+use Rattle.format.specs.Bodies.{Part, points, names, tagging, skipped, pointsBody, namesBody, taggingBody, surfaceBody}
 use Rattle.format.specs.Rules.{Before, after, count, when_read_, judge, from, pointsOf}
+use Rattle.format.proofs.Facts.{length-entries}
 use Rattle.format.proofs.Puts.{total-append}
 use Rattle.fill.specs.declared.entries.Ends.{Ends}
 use Rattle.fill.specs.Polygons as fill
 use Rattle.fill.specs.Taggings.{TagsRoom, TagsPut}
 use Rattle.tables.specs.declared.polygons.Latest.{Latest}
 use Rattle.tables.specs.Held.{Held, heldPolygons, heldAfter, withPoints, withNames, withPolygons, Stands, PartRoom, PartPut}
-use Rattle.survey.proofs.Judging.{Makes, makes-give, makes-then}
 use Rattle.survey.proofs.Tallying.{tagged-alike}
-use Rattle.tables.proofs.Pointing.{PointsOf, points-of, chunk-length}
-use Rattle.tables.proofs.Parts.{Each, each-when, each-if, each-skipped, Made, polygonsFrom, Holds}
+use Rattle.tables.proofs.Pointing.{chunk-length}
+use Rattle.tables.proofs.Making.{makes-surface, Always, always-when, always-if, always-skipped, Made, Holds, polygonsFrom, holds-points}
 use Rattle.tables.proofs.Placing.{vertices-from, same-length, placed-more, placed-tagged}
 
 -- ---- chunks without points, names, polygons and tags
@@ -29,45 +29,36 @@ use Rattle.tables.proofs.Placing.{vertices-from, same-length, placed-mo
 abbrev Idle : Part → Type 0
 Idle part = (h : Held) → heldAfter h part ≡ h
 
-idle-surface : (kind : Kind) → Makes Idle (surfaceBody kind)
-unfolding surfaceBody heldAfter
-idle-surface kind = makes-then Idle _ _ (λ n. makes-then Idle _ _ (λ vs. makes-give Idle _ (λ h. refl)))
-
 -- a SURF, or an unlisted tag
-idle-rest : (kind : Kind) (t : ℕ) → Each Idle (if t is "SURF" then when true read surfaceBody kind else (λ body. fine skipped))
+idle-rest : (kind : Kind) (t : ℕ) → Always Idle (if t is "SURF" then when true read surfaceBody kind else (λ body. fine skipped))
 unfolding heldAfter
-idle-rest kind t = each-if (t is "SURF") (each-when true (λ yes. idle-surface kind)) (each-skipped (λ h. refl))
+idle-rest kind t = always-if Idle (t is "SURF") (λ e. always-when Idle true (λ yes. makes-surface Idle kind (λ n vs h. refl))) (always-skipped Idle (λ h. refl))
 
 module _ (b : Before) (t : ℕ) (not-points : t is "PNTS" ≡ false) (not-polygons : t is "POLS" ≡ false) where
-  pub lwob-rest : t is "SRFS" ≡ false → t is "PCHS" ≡ false → Each Idle (judge LWOB b t)
+  pub lwob-rest : t is "SRFS" ≡ false → t is "PCHS" ≡ false → Always Idle (judge LWOB b t)
   unfolding judge
   lwob-rest not-names not-patches = rw (not-points, not-names, not-polygons, not-patches) (idle-rest LWOB t)
 
-  pub lwo2-rest : t is "TAGS" ≡ false → t is "PTAG" ≡ false → Each Idle (judge LWO2 b t)
+  pub lwo2-rest : t is "TAGS" ≡ false → t is "PTAG" ≡ false → Always Idle (judge LWO2 b t)
   unfolding judge
   lwo2-rest not-names not-tags = rw (not-points, not-names, not-polygons, not-tags) (idle-rest LWO2 t)
 
 -- ---- one chunk
 
-points-words : (ps : List Point) → length (joined (map pointWords ps)) ≡ length ps * 3
-unfolding joined
-points-words [] = refl
-points-words (p ∷ ps) = omega (arith, points-words ps)
-
 module _ {kind : Kind} {t : ℕ} {s : List ℕ} {nameCount : ℕ} {l : Latest} {words vertices : List ℕ} where
-  pub nothing-new : ((b : Before) → Each Idle (judge kind b t)) → PartPut kind t s nameCount l words words vertices vertices l
+  pub nothing-new : ((b : Before) → Always Idle (judge kind b t)) → PartPut kind t s nameCount l words words vertices vertices l
   nothing-new idle = record {
     put = λ r. subst (λ h. Stands h l (r .words₀) words (r .vertices₀) vertices) (sym (idle (r .held .before) .each (drop 8 s) (r .part) (r .sound) (r .held))) (r .stands);
   }
 
   -- points
   module _ (e : t is "PNTS" ≡ true) where
-    points-in : (r : PartRoom kind t s nameCount l words vertices) → PointsOf kind (drop 8 s) (r .part)
-    points-in r = points-of kind (r .held .before) t (drop 8 s) (r .part) e (r .sound)
+    points-in : (r : PartRoom kind t s nameCount l words vertices) → Made points (pointsBody kind) (drop 8 s) (r .part)
+    points-in r = holds-points kind e .each (r .held .before) (drop 8 s) (r .part) (r .sound)
 
     pub points-fit : PartRoom kind t s nameCount l words vertices → l .base + l .points < 2 ^ 32
     unfolding heldAfter after
-    points-fit r = omega (arith, rw (points-in r .all-points) at (r .few), r .stands .base-is, r .stands .points-are)
+    points-fit r = omega (arith, rw (points-in r .part-is) at (r .few), r .stands .base-is, r .stands .points-are)
 
     pub points-put : {l′ : Latest} → l′ ≡ withPoints l ((length s - 8) / 12) → PartPut kind t s nameCount l words words vertices vertices l′
     unfolding heldAfter after pointsOf
@@ -75,11 +66,11 @@ module _ {kind : Kind} {t : ℕ} {s : List ℕ} {nameCount : ℕ} {l : Latest} {
       put = λ r.
           let p = points-in r in
           let w = r .stands in
-          let size = rw (p .all-points) at (chunk-length kind (r .held .before) t s (r .part) e (r .sound)) in
-          rw (p .all-points, same)
+          let size = rw (p .part-is) at (chunk-length kind (r .held .before) t s (r .part) e (r .sound)) in
+          rw (p .part-is, same)
           (record {
             base-is = omega (arith, w .base-is, w .points-are);
-            points-are = omega (arith, size, points-words (p .listed));
+            points-are = omega (arith, size, length-entries pointSize pointWords (λ q. refl) (p .of));
             names-are = w .names-are;
             polygons-are = w .polygons-are;
             placed = w .placed;

@@ -1,16 +1,12 @@
 pub mod Making
 pub mod Once
 pub mod Walking
-pub mod Passing
 pub mod Pointing
 pub mod Filling
 pub mod Seeking
-pub mod Indexed
-pub mod Sameness
 pub mod Listing
 pub mod Surfaced
 pub mod Settled
-pub mod Parts
 pub mod Placing
 pub mod Holding
 pub mod Building

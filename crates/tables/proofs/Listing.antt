@@ -10,9 +10,9 @@ use Rattle.format.specs.Bytes.{if_then_else_, sum, same}
 use Rattle.format.specs.Mesh.{Name, Surface, surfaceWords}
 use Rattle.format.specs.Written.{pieces}
 use Rattle.format.specs.Said.{Put}
+use Rattle.format.proofs.Indexed.{past-end, part, pieces-at, sum-index}
 use Rattle.format.proofs.Puts.{put-length}
 use Rattle.tables.specs.Listed.{withRecord, ListedRoom}
-use Rattle.tables.proofs.Indexed.{past-end, part, pieces-at, sum-index}
 
 -- ---- ten words of a table, kept or put
 

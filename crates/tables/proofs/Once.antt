@@ -3,7 +3,6 @@ use mathlib.Core.Path.{_≡_, refl, sym, _∙_}
 use mathlib.Core.List.{List, [], map}
 use mathlib.Core.Option.{none, some}
 use Prim.Native.Nat.{ℕ, _+_}
-use native.Mathlib.Omega.{arith}
 use lib.ListN.{length}
 use Rattle.format.specs.declared.Kind.{Kind}
 use Rattle.format.specs.Bytes.{joined}
@@ -12,6 +11,7 @@ use Rattle.format.specs.Chunks.{Chunks, finished, broken, chunk, sizeOf}
 use Rattle.format.specs.Mesh.{Name}
 use Rattle.format.specs.Bodies.{Part, names}
 use Rattle.format.specs.Rules.{Before, after, judge, walk, namesOf}
+use Rattle.format.proofs.Facts.{impossible}
 use Rattle.format.proofs.Verdicts.{same-fine}
 use Rattle.format.proofs.Walks.{next}
 use Rattle.tables.proofs.Making.{always}
@@ -21,12 +21,12 @@ pub first-names : (kind : Kind) (b : Before) (t : ℕ) (body : List ℕ) (ns : L
 first-names kind b t body ns j =
     always (λ part. (ms : List Name) → part ≡ names ms → b .names ≡ none) kind b t
     (record {
-      of-points = λ e ps ms i. absurd (let z : _≡_ {A = ℕ} 0 1 = cc in omega arith);
+      of-points = λ e ps ms i. impossible cc;
       of-names = λ e missing ns ms i. missing;
-      of-polygons = λ ps n ms i. absurd (let z : _≡_ {A = ℕ} 0 1 = cc in omega arith);
-      of-tagging = λ ts ms i. absurd (let z : _≡_ {A = ℕ} 0 1 = cc in omega arith);
-      of-surface = λ e n vs ms i. absurd (let z : _≡_ {A = ℕ} 0 1 = cc in omega arith);
-      of-skipped = λ ms i. absurd (let z : _≡_ {A = ℕ} 0 1 = cc in omega arith);
+      of-polygons = λ ps n ms i. impossible cc;
+      of-tagging = λ ts ms i. impossible cc;
+      of-surface = λ e n vs ms i. impossible cc;
+      of-skipped = λ ms i. impossible cc;
     })
     .each body (names ns) j ns refl
 
@@ -37,7 +37,7 @@ stays kind b n t body part there j =
     always (λ part. (namesOf part ≡ []) × (after b part .names ≡ some n)) kind b t
     (record {
       of-points = λ e ps. (refl, there);
-      of-names = λ e missing ns. absurd (let z : _≡_ {A = ℕ} 0 1 = cc (sym missing ∙ there) in omega arith);
+      of-names = λ e missing ns. impossible (cc (sym missing ∙ there));
       of-polygons = λ ps k. (refl, there);
       of-tagging = λ ts. (refl, there);
       of-surface = λ e m vs. (refl, there);
@@ -48,7 +48,7 @@ stays kind b n t body part there j =
 pub no-more-names : (kind : Kind) (b : Before) (n place : ℕ) (cs : Chunks) (parts : List Part) → b .names ≡ some n → walk kind b place cs ≡ fine parts → joined (map namesOf parts) ≡ []
 unfolding walk joined
 no-more-names kind b n place finished parts there e = rw (← same-fine e) refl
-no-more-names kind b n place broken parts there e = absurd (let z : _≡_ {A = ℕ} 0 1 = cc in omega arith)
+no-more-names kind b n place broken parts there e = impossible cc
 no-more-names kind b n place (chunk t body rest) parts there e =
     let x = next kind b place t body rest parts e in
     let s = stays kind b n t body (x .part) there (x .here) in

@@ -22,7 +22,7 @@ use Rattle.fill.proofs.Behind.{tags-behind}
 
 -- ---- vertices
 
-vertices-size : (ps : List Polygon) → length (verticesOf ps) ≡ vertexCount ps
+pub vertices-size : (ps : List Polygon) → length (verticesOf ps) ≡ vertexCount ps
 unfolding joined sum
 vertices-size [] = refl
 vertices-size (p ∷ ps) = omega (arith, length-append (p .vertices) (verticesOf ps), vertices-size ps)

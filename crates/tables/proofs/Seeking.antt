@@ -1,47 +1,29 @@
 -- The walk up to the chunk that holds the names. Assumes nothing.
 use mathlib.Core.Path.{_≡_, refl, sym, ap, subst, _∙_}
-use mathlib.Core.List.{List, [], _∷_, _++_, map, map-append, append-nil}
-use mathlib.Core.Bool.{true, false, not}
+use mathlib.Core.List.{List, [], _∷_, _++_, map, append-nil}
+use mathlib.Core.Bool.{true, false}
 use Prim.Native.Nat.{ℕ, _≤_}
 use native.Mathlib.Omega.{arith}
 use lib.ListN.{length, drop, length-map}
-use borrow.Author.Tests.{eqb-true}
 use Rattle.format.specs.declared.Kind.{Kind}
-use Rattle.format.specs.declared.Kind.the-variants.{LWOB, LWO2}
-use Rattle.format.specs.declared.Fault.the-variants.{OutOfOrder}
-use Rattle.format.specs.Bytes.{number, joined}
-use Rattle.format.specs.Items.{fine, whole}
+use Rattle.format.specs.Bytes.{joined}
+use Rattle.format.specs.Items.{fine}
 use Rattle.format.specs.Chunks.{chunks}
 use Rattle.format.specs.Mesh.{Name}
 use Rattle.format.specs.Bodies.{Part, names, namesBody}
-use Rattle.format.specs.Rules.{Before, start, after, there, when_read_, judge, walk, namesOf}
+use Rattle.format.specs.Rules.{Before, start, after, judge, walk, namesOf}
 use Rattle.format.specs.Said.{Put}
-use Rattle.format.proofs.Puts.{joined-append, joined-map-append, put-none}
-use Rattle.format.proofs.Verdicts.{chosen, same-fine}
+use Rattle.format.proofs.Facts.{impossible, joined-joined, map-joined}
+use Rattle.format.proofs.Puts.{joined-map-append, put-none}
+use Rattle.format.proofs.Verdicts.{same-fine}
 use Rattle.fill.specs.Puts.{NamesRoom, NamesPut}
 use Rattle.tables.specs.Fills.{lengthsIn, bytesIn, allNames, FileRoom, FilePut}
 use Rattle.tables.specs.Listed.{namesTag}
-use Rattle.tables.proofs.Making.{makes-whole, makes-names, always}
+use Rattle.tables.proofs.Making.{Made, holds-names, always}
 use Rattle.tables.proofs.Once.{no-more-names}
-use Rattle.tables.proofs.Passing.{Walking, Turn, begin, end, walked}
+use Rattle.tables.proofs.Walking.{Walking, Turn, begin, end, all-parts, walked}
 
--- ---- a chunk of names, and any other
-
-pub record NamesOf (body : List ℕ) (part : Part) : Type 0 where
-  pub listed : List Name
-  pub all-names : part ≡ names listed
-  pub sound : whole 0 namesBody 8 body ≡ fine (names listed)
-
-from-whole : {body : List ℕ} {part : Part} → whole 0 namesBody 8 body ≡ fine part → NamesOf body part
-from-whole {body} w =
-    let P : Part → Type 0 = λ part. (ns : List Name) × (part ≡ names ns) in
-    let p = makes-whole P (makes-names P (λ ns. (ns, refl))) body w in
-    record { listed = p .0; all-names = p .1; sound = rw (← p .1) w }
-
-names-of : (kind : Kind) (b : Before) (t : ℕ) (body : List ℕ) (part : Part) → namesTag kind t ≡ true → judge kind b t body ≡ fine part → NamesOf body part
-unfolding judge when_read_ number
-names-of LWOB b t body part e j = from-whole (chosen (not (there (b .names))) (whole 0 namesBody 8 body) OutOfOrder 0 (subst (λ t. judge LWOB b t body ≡ fine part) (eqb-true t _ e) j) .1)
-names-of LWO2 b t body part e j = from-whole (chosen (not (there (b .names))) (whole 0 namesBody 8 body) OutOfOrder 0 (subst (λ t. judge LWO2 b t body ≡ fine part) (eqb-true t _ e) j) .1)
+-- ---- a chunk that holds no names
 
 no-names : (kind : Kind) (b : Before) (t : ℕ) (body : List ℕ) (part : Part) → namesTag kind t ≡ false → judge kind b t body ≡ fine part → namesOf part ≡ []
 unfolding namesOf
@@ -49,7 +31,7 @@ no-names kind b t body part other j =
     always (λ part. namesOf part ≡ []) kind b t
     (record {
       of-points = λ e ps. refl;
-      of-names = λ e missing ns. absurd (let z : _≡_ {A = ℕ} 0 1 = cc (sym e ∙ other) in omega arith);
+      of-names = λ e missing ns. impossible (cc (sym e ∙ other));
       of-polygons = λ ps n. refl;
       of-tagging = λ ts. refl;
       of-surface = λ e n vs. refl;
@@ -59,15 +41,11 @@ no-names kind b t body part other j =
 
 -- ---- what the tables are for
 
-made-lengths : (parts : List Part) → joined (map lengthsIn parts) ≡ map length (allNames parts)
-unfolding joined
-made-lengths [] = refl
-made-lengths (p ∷ ps) = rw (made-lengths ps) (sym (map-append length (namesOf p) (allNames ps)))
+pub made-lengths : (parts : List Part) → joined (map lengthsIn parts) ≡ map length (allNames parts)
+made-lengths parts = map-joined length namesOf parts
 
-made-bytes : (parts : List Part) → joined (map bytesIn parts) ≡ joined (allNames parts)
-unfolding joined
-made-bytes [] = refl
-made-bytes (p ∷ ps) = rw (made-bytes ps) (sym (joined-append (namesOf p) (allNames ps)))
+pub made-bytes : (parts : List Part) → joined (map bytesIn parts) ≡ joined (allNames parts)
+made-bytes parts = joined-joined namesOf parts
 
 -- the names of the file, which its two tables have room for
 pub record Rooms (kind : Kind) (file lengths bytes : List ℕ) : Type 0 where
@@ -149,24 +127,24 @@ module _ {kind : Kind} {file lengths₀ bytes₀ : List ℕ} {at : ℕ} {lengths
         }
 
     module _ (e : namesTag kind tag ≡ true) where
-      this : NamesOf (drop 8 s) (t .part)
-      this = names-of kind (k .walking .before) tag (drop 8 s) (t .part) e (t .here)
+      this : Made names namesBody (drop 8 s) (t .part)
+      this = holds-names kind e .each (k .walking .before) (drop 8 s) (t .part) (t .here)
 
-      all-of-them : allNames (k .parts) ≡ this .listed
+      all-of-them : allNames (k .parts) ≡ this .of
       unfolding after
       all-of-them =
           let b = k .walking .before in
-          let onward = subst (λ part. walk kind (after b part) onto (chunks (drop onto file)) ≡ fine (t .later)) (this .all-names) (t .onward) in
-          let none-after : allNames (t .later) ≡ [] = no-more-names kind (after b (names (this .listed))) (length (this .listed)) onto (chunks (drop onto file)) (t .later) refl onward in
-          ap allNames (sym (t .both)) ∙ only-these (k .done) (t .later) (k .none-yet) (this .all-names) none-after
+          let onward = subst (λ part. walk kind (after b part) onto (chunks (drop onto file)) ≡ fine (t .later)) (this .part-is) (t .onward) in
+          let none-after : allNames (t .later) ≡ [] = no-more-names kind (after b (names (this .of))) (length (this .of)) onto (chunks (drop onto file)) (t .later) refl onward in
+          ap allNames (sym (all-parts (k .walking) t)) ∙ only-these (k .done) (t .later) (k .none-yet) (this .part-is) none-after
 
       pub names-room : NamesRoom s lengths 0 bytes 0
       names-room = record {
-        listed = this .listed;
+        listed = this .of;
         sound = this .sound;
         lengths-fit = omega (arith, ap length all-of-them, ap length (k .same-lengths), lengths-fit (k .rooms) (k .sound));
         bytes-fit = omega (arith, ap (λ ns. length (joined ns)) all-of-them, ap length (k .same-bytes), bytes-fit (k .rooms) (k .sound));
       }
 
       pub found : {lengths′ bytes′ : List ℕ} → NamesPut s lengths 0 lengths′ bytes 0 bytes′ → FilePut lengthsIn kind file lengths₀ lengths′ × FilePut bytesIn kind file bytes₀ bytes′
-      found p = puts (k .rooms) (k .sound) all-of-them (k .same-lengths) (k .same-bytes) (p .put-lengths (this .listed) (this .sound)) (p .put-bytes (this .listed) (this .sound))
+      found p = puts (k .rooms) (k .sound) all-of-them (k .same-lengths) (k .same-bytes) (p .put-lengths (this .of) (this .sound)) (p .put-bytes (this .of) (this .sound))

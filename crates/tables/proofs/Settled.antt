@@ -1,7 +1,7 @@
 -- The records of all listed names, as the SURFs so far leave them. Assumes nothing.
 use Prim.Native.Nat.{ℕ, _+_, _*_, _≤_}
 use mathlib.Core.Path.{_≡_, refl, sym, ap, _∙_}
-use mathlib.Core.List.{List, [], _∷_, _++_, map, append-assoc, append-nil}
+use mathlib.Core.List.{List, [], _∷_, _++_, map, append-nil}
 use mathlib.Core.Bool.{Bool, true, false}
 use native.Mathlib.Omega.{arith}
 use lib.ListN.{length, take, drop, replicate, length-append, length-take, length-drop, length-map}
@@ -16,23 +16,15 @@ use Rattle.format.specs.Bodies.{Part}
 use Rattle.format.specs.Rules.{start, walk, surfacesOf, standing}
 use Rattle.format.specs.Written.{pieces}
 use Rattle.format.specs.Said.{Put}
+use Rattle.format.proofs.Facts.{length-entries, length-joined}
+use Rattle.format.proofs.Indexed.{pieces-back}
 use Rattle.format.proofs.Puts.{joined-map-append}
 use Rattle.format.proofs.Verdicts.{same-fine}
 use Rattle.tables.specs.Fills.{allNames, RecordsRoom, RecordsPut}
 use Rattle.tables.specs.Listed.{withRecord, withSurfaces, ListedRoom, SurfacesPut}
-use Rattle.tables.proofs.Passing.{Walking, Turn, begin, end, walked}
+use Rattle.tables.proofs.Walking.{Walking, Turn, begin, end, walked}
 
 -- ---- the names in their tables
-
-lengths-sum : (ns : List Name) → sum (map length ns) ≡ length (joined ns)
-unfolding sum joined
-lengths-sum [] = refl
-lengths-sum (n ∷ ns) = omega (arith, lengths-sum ns, length-append n (joined ns))
-
-names-back : (ns : List Name) (more : List ℕ) → pieces (map length ns) (joined ns ++ more) ≡ ns
-unfolding pieces joined
-names-back [] more = refl
-names-back (n ∷ ns) more = rw (append-assoc n (joined ns) more, take-at n (joined ns ++ more) (length n) refl, drop-at n (joined ns ++ more) (length n) refl, names-back ns more)
 
 -- the first `count` lengths cut the names from the bytes
 pub record Named (count : ℕ) (lengths bytes : List ℕ) (ns : List Name) : Type 0 where
@@ -51,8 +43,8 @@ module _ {kind : Kind} {file : List ℕ} {count : ℕ} {lengths bytes records : 
       record {
         few = omega (arith, r .names-are, ap length (r .lengths-hold), length-append (map length ns) (r .more-lengths), length-map ns length);
         many = r .names-are;
-        cut = rw (listed, r .bytes-hold) (names-back ns (r .more-bytes));
-        inside = omega (arith, ap sum listed, lengths-sum ns, ap length (r .bytes-hold), length-append (joined ns) (r .more-bytes));
+        cut = rw (listed, r .bytes-hold) (pieces-back ns (r .more-bytes));
+        inside = omega (arith, ap sum listed, length-joined ns, ap length (r .bytes-hold), length-append (joined ns) (r .more-bytes));
       }
 
 -- ---- the records of some names
@@ -61,9 +53,7 @@ abbrev recordWords : (Name → Surface) → List Name → List ℕ
 recordWords of ns = joined (map surfaceWords (map of ns))
 
 words-length : (of : Name → Surface) (ns : List Name) → length (recordWords of ns) ≡ length ns * 10
-unfolding joined
-words-length of [] = refl
-words-length of (n ∷ ns) = omega (arith, words-length of ns)
+words-length of ns = length-entries 10 surfaceWords (λ s. refl) (map of ns) ∙ ap (λ n. n * 10) (length-map ns of)
 
 words-put : (of : Name → Surface) (ns : List Name) {count : ℕ} {table table′ : List ℕ} → count ≡ length ns → table′ ≡ recordWords of ns ++ drop (count * 10) table
     → Put table 0 (recordWords of ns) table′

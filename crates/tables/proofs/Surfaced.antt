@@ -1,22 +1,23 @@
 -- A SURF that was judged fine is its name and values, and no other chunk has any. Assumes nothing.
-use mathlib.Core.Path.{_≡_, refl, sym, ap, subst, _∙_}
+use mathlib.Core.Path.{_≡_, refl, sym, ap, _∙_}
 use mathlib.Core.List.{List, []}
 use mathlib.Core.Bool.{true, false}
 use Prim.Native.Nat.{ℕ, _+_, _-_, _≤_}
 use native.Mathlib.Omega.{arith}
 use lib.ListN.{length, take, drop, length-take, length-drop}
-use borrow.Author.Tests.{eqb-true}
 use Rattle.format.specs.declared.Kind.{Kind}
 use Rattle.format.specs.declared.Kind.the-variants.{LWOB, LWO2}
 use Rattle.format.specs.declared.Fault.the-variants.{WrongLength}
-use Rattle.format.specs.Bytes.{_is_, number, empty}
+use Rattle.format.specs.Bytes.{_is_, empty}
 use Rattle.format.specs.Items.{fine, Got, whole, _>>=_, many, string}
 use Rattle.format.specs.Chunks.{sub}
 use Rattle.format.specs.Mesh.{Name}
 use Rattle.format.specs.Surfaces.{Value, valueOf}
 use Rattle.format.specs.Bodies.{Part, surface, surfaceName, surfaceBody}
-use Rattle.format.specs.Rules.{Before, when_read_, judge, surfacesOf}
+use Rattle.format.specs.Rules.{Before, judge, surfacesOf}
 use Rattle.format.specs.Written.{pieces}
+use Rattle.format.proofs.Facts.{impossible}
+use Rattle.format.proofs.Indexed.{part}
 use Rattle.format.proofs.Saying.{exactly}
 use Rattle.format.proofs.Verdicts.{then-fine, chosen, same-fine}
 use Rattle.wire.specs.declared.cursor.Cursor.{Cursor}
@@ -25,8 +26,7 @@ use Rattle.wire.specs.Answers.{TextAt}
 use Rattle.surface.specs.declared.record.Record.{Record}
 use Rattle.surface.specs.Records.{surfaceOf, RecordAt}
 use Rattle.tables.specs.Listed.{withRecord, SurfacesPut}
-use Rattle.tables.proofs.Making.{makes-whole, makes-surface, always}
-use Rattle.tables.proofs.Indexed.{part}
+use Rattle.tables.proofs.Making.{holds-surface, always}
 
 -- ---- the name that a SURF body starts with
 
@@ -65,24 +65,7 @@ module _ {s : List ℕ} {n : ℕ} {c : Cursor} (w : TextAt s 8 (Text.Got n c)) w
   name-is : {name : Name} → Starts (drop 8 s) name → take (8 + n - 8) (drop 8 s) ≡ name
   name-is y = part 8 n s ∙ ap (λ g. g .value) (same-fine (sym (exactly (w .reads .says)) ∙ y .reads)) ∙ y .value-is
 
--- ---- a chunk
-
-record SurfaceOf (kind : Kind) (body : List ℕ) (part : Part) : Type 0 where
-  name : Name
-  values : List Value
-  all : part ≡ surface name values
-  sound : whole 0 (surfaceBody kind) 8 body ≡ fine (surface name values)
-
-from-whole : (kind : Kind) {body : List ℕ} {part : Part} → whole 0 (surfaceBody kind) 8 body ≡ fine part → SurfaceOf kind body part
-from-whole kind {body} w =
-    let P : Part → Type 0 = λ part. (n : Name) × (vs : List Value) × (part ≡ surface n vs) in
-    let p = makes-whole P (makes-surface P kind (λ n vs. (n, vs, refl))) body w in
-    record { name = p .0; values = p .1; all = p .2; sound = rw (← p .2) w }
-
-surface-of : (kind : Kind) (b : Before) (t : ℕ) (body : List ℕ) (part : Part) → t is "SURF" ≡ true → judge kind b t body ≡ fine part → SurfaceOf kind body part
-unfolding judge when_read_ number
-surface-of LWOB b t body part e j = from-whole LWOB (subst (λ t. judge LWOB b t body ≡ fine part) (eqb-true t _ e) j)
-surface-of LWO2 b t body part e j = from-whole LWO2 (subst (λ t. judge LWO2 b t body ≡ fine part) (eqb-true t _ e) j)
+-- ---- a chunk that holds no surface
 
 no-surfaces : (kind : Kind) (b : Before) (t : ℕ) (body : List ℕ) (part : Part) → t is "SURF" ≡ false → judge kind b t body ≡ fine part → surfacesOf part ≡ []
 unfolding surfacesOf
@@ -93,7 +76,7 @@ no-surfaces kind b t body part other j =
       of-names = λ e missing ns. refl;
       of-polygons = λ ps n. refl;
       of-tagging = λ ts. refl;
-      of-surface = λ e n vs. absurd (let z : _≡_ {A = ℕ} 0 1 = cc (sym e ∙ other) in omega arith);
+      of-surface = λ e n vs. impossible (cc (sym e ∙ other));
       of-skipped = refl;
     })
     .each body part j
@@ -108,9 +91,9 @@ module _ {kind : Kind} {t : ℕ} {s lengths bytes records : List ℕ} where
     pub never-open : TextAt s 8 Text.Open → {records′ : List ℕ} → SurfacesPut kind t s lengths bytes records records′
     never-open w = record {
       put = λ b part j.
-          let x = surface-of kind b t (drop 8 s) part e j in
+          let x = holds-surface kind e .each b (drop 8 s) part j in
           let y = starts kind (drop 8 s) (x .sound) in
-          absurd (let z : _≡_ {A = ℕ} 0 1 = cc (sym (exactly (w .reads .says)) ∙ y .reads) in omega arith);
+          impossible (cc (sym (exactly (w .reads .says)) ∙ y .reads));
     }
 
     module _ {n : ℕ} {c : Cursor} (w : TextAt s 8 (Text.Got n c)) where
@@ -119,6 +102,6 @@ module _ {kind : Kind} {t : ℕ} {s lengths bytes records : List ℕ} where
       unfolding surfacesOf
       put-surface r p = record {
         put = λ b part j.
-            let x = surface-of kind b t (drop 8 s) part e j in
-            rw (x .all) (p ∙ rw (name-is w (starts kind (drop 8 s) (x .sound)), r .is (x .name) (x .values) (x .sound)) refl);
+            let x = holds-surface kind e .each b (drop 8 s) part j in
+            rw (x .part-is) (p ∙ rw (name-is w (starts kind (drop 8 s) (x .sound)), r .is (x .of .0) (x .of .1) (x .sound)) refl);
       }

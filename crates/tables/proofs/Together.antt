@@ -1,58 +1,30 @@
 -- Room for all that a mesh needs is room for each fill, and what the fills put is what the mesh's tables hold. Assumes nothing.
 use mathlib.Core.Path.{_≡_, refl, sym, ap, _∙_}
-use mathlib.Core.List.{List, [], _∷_, _++_, map, map-append}
+use mathlib.Core.List.{List, _++_, map}
 use mathlib.Core.Bool.{true}
 use Prim.Native.Nat.{ℕ, _+_, _*_, _/_, _≤_}
 use native.Mathlib.Omega.{arith}
 use native.Mathlib.Nat.{zero-add}
-use lib.ListN.{length, take, drop, length-append, length-map}
+use lib.ListN.{length, drop, length-map}
 use borrow.Author.Tests.{leb-true}
 use Rattle.format.specs.declared.Kind.{Kind}
 use Rattle.format.specs.Bytes.{joined, sum}
-use Rattle.format.specs.Mesh.{Polygon, Name, pointWords, polygonWords, surfaceWords, pointSize, polygonSize, recordSize, Tables, lent, tables, Needs, needs}
+use Rattle.format.specs.Mesh.{pointWords, pointSize, polygonSize, recordSize, Tables, tables, Needs, needs}
 use Rattle.format.specs.Bodies.{Part}
-use Rattle.format.specs.Rules.{pointsOf, namesOf, meshOf}
+use Rattle.format.specs.Rules.{pointsOf, meshOf}
 use Rattle.format.specs.Answer.{fits, over, filled}
 use Rattle.format.specs.Said.{Put}
-use Rattle.format.proofs.Puts.{joined-append}
-use Rattle.format.proofs.Verdicts.{same-fine}
-use Rattle.laws.proofs.Facts.{every-at, length-entries}
+use Rattle.format.proofs.Facts.{every-at, length-entries, length-joined, joined-joined, map-joined}
 use Rattle.survey.specs.declared.counts.Totals.{Totals}
 use Rattle.survey.specs.Answers.{totalsOf, needsIn}
-use Rattle.tables.specs.Fills.{pointsIn, lengthsIn, bytesIn, FileRoom, FilePut, allNames, allPolygons, allSurfaces, verticesOf, PolygonsRoom, PolygonsPut, RecordsRoom, RecordsPut, TablesRoom, TablesPut}
-
--- ---- lists of lists
-
-joined-joined : {A B : Type 0} (h : A → List (List B)) (xs : List A) → joined (map (λ x. joined (h x)) xs) ≡ joined (joined (map h xs))
-unfolding joined
-joined-joined h [] = refl
-joined-joined h (x ∷ xs) = ap (λ l. joined (h x) ++ l) (joined-joined h xs) ∙ sym (joined-append (h x) (joined (map h xs)))
-
-map-joined : {A B C : Type 0} (f : B → C) (g : A → List B) (xs : List A) → joined (map (λ x. map f (g x)) xs) ≡ map f (joined (map g xs))
-unfolding joined
-map-joined f g [] = refl
-map-joined f g (x ∷ xs) = ap (λ l. map f (g x) ++ l) (map-joined f g xs) ∙ sym (map-append f (g x) (joined (map g xs)))
-
-total : {A B : Type 0} (f : A → List B) (xs : List A) → length (joined (map f xs)) ≡ sum (map (λ x. length (f x)) xs)
-unfolding joined sum
-total f [] = refl
-total f (x ∷ xs) = length-append (f x) (joined (map f xs)) ∙ ap (λ n. length (f x) + n) (total f xs)
-
-length-joined : {A : Type 0} (xss : List (List A)) → length (joined xss) ≡ sum (map length xss)
-unfolding joined sum
-length-joined [] = refl
-length-joined (xs ∷ xss) = length-append xs (joined xss) ∙ ap (λ n. length xs + n) (length-joined xss)
+use Rattle.tables.specs.Fills.{pointsIn, lengthsIn, bytesIn, FileRoom, FilePut, allNames, allPolygons, PolygonsRoom, PolygonsPut, RecordsRoom, RecordsPut, TablesRoom, TablesPut}
+use Rattle.tables.proofs.Seeking.{made-lengths, made-bytes}
+use Rattle.tables.proofs.Placing.{vertices-size}
 
 -- ---- what the chunks make, and what the mesh's tables hold
 
 made-points : (parts : List Part) → joined (map pointsIn parts) ≡ joined (map pointWords (joined (map pointsOf parts)))
 made-points parts = joined-joined (λ part. map pointWords (pointsOf part)) parts ∙ ap joined (map-joined pointWords pointsOf parts)
-
-made-lengths : (parts : List Part) → joined (map lengthsIn parts) ≡ map length (allNames parts)
-made-lengths parts = map-joined length namesOf parts
-
-made-bytes : (parts : List Part) → joined (map bytesIn parts) ≡ joined (allNames parts)
-made-bytes parts = joined-joined namesOf parts
 
 -- ---- room
 
@@ -99,7 +71,7 @@ module _ {kind : Kind} {file : List ℕ} {totals : Totals} {t : Tables} (r : Tab
   pub bytes-room : FileRoom bytesIn kind file (t .nameBytes)
   unfolding needs meshOf
   bytes-room =
-      let l : length (joined (map bytesIn (r .parts))) ≡ sum (map length (allNames (r .parts))) = rw (made-bytes (r .parts)) (length-joined (allNames (r .parts))) in
+      let l : length (joined (map bytesIn (r .parts))) ≡ sum (map length (allNames (r .parts))) = rw (made-bytes (r .parts)) (sym (length-joined (allNames (r .parts)))) in
       record { parts = r .parts; sound = r .sound; fits = omega (arith, l, room .nameBytes) }
 
   pub polygons-room : PolygonsRoom kind file (totals .names) (t .polygons) (t .vertices)
@@ -110,7 +82,7 @@ module _ {kind : Kind} {file : List ℕ} {totals : Totals} {t : Tables} (r : Tab
     names-are = names-are;
     few = r .few;
     words-fit = omega (arith, room .polygons);
-    vertices-fit = omega (arith, total (λ (p : Polygon). p .vertices) (allPolygons (r .parts)), room .vertices);
+    vertices-fit = omega (arith, vertices-size (allPolygons (r .parts)), room .vertices);
   }
 
   -- the names stand in their tables by now

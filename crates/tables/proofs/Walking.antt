@@ -1,6 +1,6 @@
--- The chunks of a file that was judged fine, one after the other. Assumes nothing.
-use mathlib.Core.Path.{_≡_, sym, ap, _∙_}
-use mathlib.Core.List.{List, [], _∷_}
+-- The walk over the chunks of a file that was judged fine, whatever is done with them. Assumes nothing.
+use mathlib.Core.Path.{_≡_, refl, sym, ap, _∙_}
+use mathlib.Core.List.{List, [], _∷_, _++_, append-assoc, append-nil}
 use Prim.Native.Nat.{ℕ, _-_, _≤_, _<_}
 use native.Mathlib.Omega.{arith}
 use lib.ListN.{length, take, drop, length-drop, drop-of-length-le}
@@ -8,7 +8,8 @@ use Rattle.format.specs.declared.Kind.{Kind}
 use Rattle.format.specs.Items.{fine}
 use Rattle.format.specs.Chunks.{chunks}
 use Rattle.format.specs.Bodies.{Part}
-use Rattle.format.specs.Rules.{Before, after, judge, walk}
+use Rattle.format.specs.Rules.{Before, start, after, judge, walk}
+use Rattle.format.proofs.Facts.{impossible}
 use Rattle.format.proofs.Saying.{exactly}
 use Rattle.format.proofs.Verdicts.{same-fine}
 use Rattle.format.proofs.Walks.{next}
@@ -18,37 +19,52 @@ use Rattle.wire.specs.declared.header.Header.{Header}
 use Rattle.wire.specs.Answers.{HeaderAt}
 use Rattle.survey.proofs.Standing.{body, front, size}
 
--- the parts `more` are left from the place `at` on
-pub record Left (kind : Kind) (file : List ℕ) (at : ℕ) (before : Before) (more : List Part) : Type 0 where
+-- of the file's parts, `done` were passed, and those that follow are judged from here on
+pub record Walking (kind : Kind) (file : List ℕ) (parts done : List Part) (at : ℕ) : Type 0 where
+  pub more : List Part
+  pub all : done ++ more ≡ parts
+  pub before : Before
   pub judged : walk kind before at (chunks (drop at file)) ≡ fine more
 
--- the part of the chunk `s`, and those that are left from the place `next` on
-pub record Turn (kind : Kind) (file : List ℕ) (before : Before) (more : List Part) (tag : ℕ) (s : List ℕ) (next : ℕ) : Type 0 where
-  pub part : Part
-  pub later : List Part
-  pub both : part ∷ later ≡ more
-  pub sound : judge kind before tag (drop 8 s) ≡ fine part
-  pub left : Left kind file next (after before part) later
+unfoldable pub begin : {kind : Kind} {file : List ℕ} {parts : List Part} → walk kind start 12 (chunks (drop 12 file)) ≡ fine parts → Walking kind file parts [] 12
+begin {parts = parts} e = record { more = parts; all = refl; before = start; judged = e }
 
-module _ {kind : Kind} {file : List ℕ} {at : ℕ} {before : Before} {more : List Part} (w : Left kind file at before more) where
-  pub none-left : length file ≤ at → more ≡ []
+module _ {kind : Kind} {file : List ℕ} {parts done : List Part} {at : ℕ} (w : Walking kind file parts done at) where
+  pub none-left : length file ≤ at → w .more ≡ []
   unfolding walk
   none-left h = sym (same-fine (rw (drop-of-length-le file {i = at} h, none) at (w .judged)))
+
+  pub end : length file ≤ at → done ≡ parts
+  end h = sym (append-nil done) ∙ ap (λ z. done ++ z) (sym (none-left h)) ∙ w .all
 
   pub never-bad : at < length file → HeaderAt 4 file at Header.Bad → ⊥
   unfolding walk
   never-bad some h =
       let long : 0 < length (drop at file) = rw (length-drop at file) (omega arith) in
-      let z : _≡_ {A = ℕ} 0 1 = cc (rw (no-chunk at (drop at file) long (exactly (h .reads .says))) at (w .judged)) in
-      omega arith
+      impossible (cc (rw (no-chunk at (drop at file) long (exactly (h .reads .says))) at (w .judged)))
 
-  pub this : {tag last : ℕ} {c : Cursor} → HeaderAt 4 file at (Header.Got tag last c) → Turn kind file before more tag (take (last - at) (drop at file)) (c .at)
-  this {tag} {c = c} h =
-      let x = next kind before at tag _ _ more (rw (front h) at (w .judged)) in
+  -- the chunk `s` of a turn, after which the next one starts at `onto`
+  pub record Turn (tag : ℕ) (s : List ℕ) (onto : ℕ) : Type 0 where
+    pub part : Part
+    pub later : List Part
+    pub here : judge kind (w .before) tag (drop 8 s) ≡ fine part
+    pub both : part ∷ later ≡ w .more
+    pub onward : walk kind (after (w .before) part) onto (chunks (drop onto file)) ≡ fine later
+
+  pub turn : {tag last : ℕ} {c : Cursor} → HeaderAt 4 file at (Header.Got tag last c) → Turn tag (take (last - at) (drop at file)) (c .at)
+  turn {tag} {last} {c} h =
+      let this = next kind (w .before) at tag _ _ (w .more) (rw (front h) at (w .judged)) in
       record {
-        part = x .part;
-        later = x .later;
-        both = x .both;
-        sound = rw (← body h) (x .here);
-        left = record { judged = ap (λ k. walk kind (after before (x .part)) k (chunks (drop (c .at) file))) (sym (size h)) ∙ x .onward };
+        part = this .part;
+        later = this .later;
+        here = rw (← body h) (this .here);
+        both = this .both;
+        onward = ap (λ k. walk kind (after (w .before) (this .part)) k (chunks (drop (c .at) file))) (sym (size h)) ∙ this .onward;
       }
+
+  module _ {tag : ℕ} {s : List ℕ} {onto : ℕ} (t : Turn tag s onto) where
+    pub all-parts : done ++ (t .part ∷ t .later) ≡ parts
+    all-parts = ap (λ z. done ++ z) (t .both) ∙ w .all
+
+    unfoldable pub walked : Walking kind file parts (done ++ (t .part ∷ [])) onto
+    walked = record { more = t .later; all = append-assoc done (t .part ∷ []) (t .later) ∙ all-parts; before = after (w .before) (t .part); judged = t .onward }

@@ -11,9 +11,10 @@ use Rattle.format.specs.Bytes.{all, sum, joined}
 use Rattle.format.specs.Mesh.{word, polygonSize}
 use Rattle.format.specs.Canonical.{bytes, vxBytes, polygonBytes}
 use Rattle.format.specs.Written.{vertexCounts}
-use Rattle.laws.proofs.Facts.{all-part}
+use Rattle.format.proofs.Facts.{all-part}
 use Rattle.mesh.specs.Lent.{entryAt, polygonsOf}
-use Rattle.mesh.proofs.Entries.{part, sum-at, polygons-at, polygons-past}
+use Rattle.format.proofs.Indexed.{part}
+use Rattle.mesh.proofs.Entries.{sum-at, polygons-at, polygons-past}
 use Rattle.output.specs.Outputs.{total, Wrote}
 use Rattle.writer.specs.Parts.{PolygonsPut}
 use Rattle.output.proofs.Filling as filling

@@ -13,7 +13,7 @@ use Rattle.format.specs.Mesh.{Point, pointWords, pointSize, pointFrom, Polygon,
 use Rattle.format.specs.Canonical.{bytes, stringBytes, pointBytes, runs, unlessEmpty, runChunks, surfaceChunks, canonicalChunks, formBytes, encoded, canonical}
 use Rattle.format.specs.Written.{pieces, entries, goodPolygon, meshFrom, isMesh}
 use Rattle.format.proofs.Puts.{joined-map-append}
-use Rattle.laws.proofs.Facts.{all-first, all-rest}
+use Rattle.format.proofs.Facts.{all-first, all-rest}
 use Rattle.laws.proofs.Bodies.{good-polygon}
 use Rattle.laws.proofs.Meshes.{good}
 use Rattle.laws.proofs.Form.{length-form}

@@ -12,7 +12,7 @@ use Rattle.format.specs.Mesh.{Polygon, word, polygonSize}
 use Rattle.format.specs.Canonical.{bytes, vxBytes, chunkBytes, polygonBytes, typeOf, pairsOf, pairBytes, runs, unlessEmpty, runChunks, encoded}
 use Rattle.format.specs.Written.{vertexCounts}
 use Rattle.format.proofs.Puts.{joined-map-append}
-use Rattle.laws.proofs.Facts.{all-part}
+use Rattle.format.proofs.Facts.{all-part}
 use Rattle.mesh.specs.Lent.{entryAt, column, polygonsOf}
 use Rattle.mesh.proofs.Entries.{polygons-at, polygons-past}
 use Rattle.output.specs.Outputs.{total, Wrote}

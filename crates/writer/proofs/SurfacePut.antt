@@ -15,12 +15,14 @@ use Rattle.format.specs.Mesh.{Name, Surface, recordSize, surfaceFrom, surfaceWo
 use Rattle.format.specs.Canonical.{bytes, vxBytes, stringBytes, chunkBytes, levelBytes, surfaceBytes, surfaceChunks, encoded}
 use Rattle.format.specs.Written.{pieces}
 use Rattle.format.proofs.Puts.{joined-map-append}
-use Rattle.laws.proofs.Facts.{length-entries}
+use Rattle.format.proofs.Facts.{length-entries}
 use Rattle.laws.proofs.Items.{length-bytes}
 use Rattle.mesh.specs.Lent.{surfacesOf}
-use Rattle.mesh.proofs.Passing.{past-end}
+use Rattle.format.proofs.Indexed.{past-end}
 use Rattle.mesh.proofs.Recorded.{words-back}
-use Rattle.mesh.proofs.Entries.{part, pieces-at, sum-index, surfaces-at}
+use Rattle.format.proofs.Indexed.{part}
+use Rattle.format.proofs.Indexed.{pieces-at, sum-index}
+use Rattle.mesh.proofs.Entries.{surfaces-at}
 use Rattle.output.specs.Outputs.{Wrote}
 use Rattle.output.specs.Outputs.{chunksBytes}
 use Rattle.writer.specs.Parts.{levelsBytes, valueBytes, surfaceChunk, SurfacesPut}

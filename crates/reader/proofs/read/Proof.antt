@@ -1,29 +1,45 @@
 use borrow.Author.Needs.{needs}
+use Rattle.format.specs.Mesh.{Tables, lent}
 use Rattle.survey.specs.declared.first.First.{First}
 use Rattle.survey.specs.Answers.{FirstOf}
 use Rattle.reader.proofs.Answering.{read-refused, tables-room, read-accepted, read-no-room}
 use Rattle.reader.proofs.read.Statement.{statement}
 use Rattle.reader.proofs.read.Tie as tie
 
+-- from what is known after a call back to the match before it, to the start, and to the tables as they were lent
+abbrev matched : tie.After-has-room → tie.After-kind
+matched u = u .before .before .before .before .before .before .before .before
+
+abbrev start : tie.After-kind → tie.Start
+start x = x .before .before .before .before .before .before .before .before .before .before
+
+abbrev given : tie.Start → Tables
+given a = lent (a .args .points .now) (a .args .polygons .now) (a .args .vertices .now) (a .args .names .now) (a .args .name-bytes .now) (a .args .records .now)
+
 -- the file was judged fine
-counted : (x : tie.After-kind) → FirstOf (x .before .before .before .before .before .before .before .before .before .before .args .file .now) (First.Counts (x .kind .given .0 .0) (x .kind .given .0 .1 .0))
+counted : (x : tie.After-kind) → FirstOf (start x .args .file .now) (First.Counts (x .kind .given .0 .0) (x .kind .given .0 .1 .0))
 counted x = rw (x .kind .given .1) at (x .before .before .first-pass .ensures)
 
 returns : tie.Need-returns
 returns c = read-refused (rw (c .before .before .f .given .1) at (c .before .before .before .before .first-pass .ensures)) (c .refused .ensures)
 
 fill-tables-requires : tie.Need-fill-tables-requires
-fill-tables-requires c κs = let u = c .before .before .before .before .before .before .before in tables-room (counted (u .before .before .before .before .before .before .before .before)) (u .has-room .ensures) (c .before .before .before .before .before .before .if1 .taken)
+fill-tables-requires c κs =
+    let r = c .before .before .before .before .before .before in
+    let u = r .before in
+    tables-room (counted (matched u)) {t = given (start (matched u))} (u .has-room .ensures) (r .if1 .taken)
 
 returns-2 : tie.Need-returns-2
 returns-2 c =
-    let u = c .before .before .before .before .before .before .before .before .before .before .before .before .before .before .before .before .before .before .before .before .before in
-    read-accepted (counted (u .before .before .before .before .before .before .before .before)) (u .has-room .ensures) (c .before .before .before .before .before .before .before .before .before .before .before .before .before .before .before .before .before .before .before .before .if1 .taken) (c .before .before .before .before .before .before .before .before .before .before .before .before .before .fill-tables .ensures) (c .with-counts .ensures)
+    let f = c .before .before .before .before .before .before .before .before .before .before .before .before .before in
+    let r = f .before .before .before .before .before .before .before in
+    let u = r .before in
+    read-accepted (counted (matched u)) {t = given (start (matched u))} (u .has-room .ensures) (r .if1 .taken) (f .fill-tables .ensures) (c .with-counts .ensures)
 
 returns-3 : tie.Need-returns-3
 returns-3 c =
     let u = c .before .before in
-    read-no-room (counted (u .before .before .before .before .before .before .before .before)) (u .has-room .ensures) (c .before .if1 .left) (c .with-counts2 .ensures)
+    read-no-room (counted (matched u)) {t = given (start (matched u))} (u .has-room .ensures) (c .before .if1 .left) (c .with-counts2 .ensures)
 
 pub read-spec : {M : Type 1} → statement M
 read-spec =

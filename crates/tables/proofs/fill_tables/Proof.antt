@@ -3,23 +3,35 @@ use Rattle.tables.proofs.Together.{points-room, lengths-room, bytes-roo
 use Rattle.tables.proofs.fill_tables.Statement.{statement}
 use Rattle.tables.proofs.fill_tables.Tie as tie
 
+-- from what is known after a call back to what was known after the one before it
+abbrev start : tie.After-fill-points → tie.Start
+start p = p .before .before .before .before .before .before .before .before .before
+
+abbrev points : tie.After-fill-polygons → tie.After-fill-points
+points g = g .before .before .before .before .before
+
+abbrev polygons : tie.After-fill-names → tie.After-fill-polygons
+polygons n = n .before .before .before .before .before .before .before
+
 fill-points-requires : tie.Need-fill-points-requires
 fill-points-requires c κs = points-room (c .before .before .before .before .before .before .before .before .pre)
 
 fill-polygons-requires : tie.Need-fill-polygons-requires
-fill-polygons-requires c κs = polygons-room (c .before .before .before .before .before .before .before .before .before .before .before .before .before .pre)
+fill-polygons-requires c κs = polygons-room (start (c .before .before .before .before) .pre)
 
 fill-names-requires : tie.Need-fill-names-requires
-fill-names-requires c κs = let r = c .before .before .before .before .before .before .before .before .before .before .before .before .before .before .before .before .before .before .before .before .pre in (lengths-room r, bytes-room r)
+fill-names-requires c κs = let r = start (points (c .before .before .before .before .before .before)) .pre in (lengths-room r, bytes-room r)
 
 fill-records-requires : tie.Need-fill-records-requires
-fill-records-requires c κs = let n = c .before .before .before .before .before .before .before .fill-names .ensures in records-room (c .before .before .before .before .before .before .before .before .before .before .before .before .before .before .before .before .before .before .before .before .before .before .before .before .before .before .before .before .pre) (n .0) (n .1)
+fill-records-requires c κs =
+    let n = c .before .before .before .before .before .before .before in
+    records-room (start (points (polygons n)) .pre) (n .fill-names .ensures .0) (n .fill-names .ensures .1)
 
 returns : tie.Need-returns
 returns c =
-    let u = c .before .before .before .before .before .before .before .before .before .before in
-    let n = u .fill-names .ensures in
-    all-put (u .before .before .before .before .before .before .before .before .before .before .before .before .fill-points .ensures) (u .before .before .before .before .before .before .before .fill-polygons .ensures) (n .0) (n .1) (c .before .before .fill-records .ensures)
+    let n = c .before .before .before .before .before .before .before .before .before .before in
+    let g = polygons n in
+    all-put (points g .fill-points .ensures) (g .fill-polygons .ensures) (n .fill-names .ensures .0) (n .fill-names .ensures .1) (c .before .before .fill-records .ensures)
 
 pub fill-tables-spec : {M : Type 1} → statement M
 fill-tables-spec =

@@ -5,7 +5,8 @@ use lib.Dec.{eqb}
 use lib.ListN.{length, drop}
 use borrow.Author.Tests.{eq-eqb, ne-eqb}
 use borrow.Author.Needs.{needs}
-use Rattle.mesh.proofs.Passing.{Passing, begin, turn, fails, end, at-index, past-end}
+use Rattle.format.proofs.Indexed.{at-index, past-end}
+use Rattle.mesh.proofs.Passing.{Passing, begin, turn, fails, end}
 use Rattle.mesh.proofs.names.no_zero.Statement.{statement}
 use Rattle.mesh.proofs.names.no_zero.Tie as tie
 

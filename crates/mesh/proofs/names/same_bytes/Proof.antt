@@ -1,7 +1,7 @@
 use Prim.Native.Nat.{_-_}
 use lib.ListN.{length}
 use borrow.Author.Needs.{needs}
-use Rattle.mesh.proofs.Sameness.{different, Sameness, begin, turn, differ, end}
+use Rattle.format.proofs.Sameness.{different, Sameness, begin, turn, differ, end}
 use Rattle.mesh.proofs.names.same_bytes.Statement.{statement}
 use Rattle.mesh.proofs.names.same_bytes.Tie as tie
 

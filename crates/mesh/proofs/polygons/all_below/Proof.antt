@@ -3,7 +3,8 @@ use lib.Dec.{ltb}
 use lib.ListN.{length, drop}
 use borrow.Author.Tests.{lt-ltb, le-ltb}
 use borrow.Author.Needs.{needs}
-use Rattle.mesh.proofs.Passing.{Passing, begin, turn, fails, end, at-index, past-end}
+use Rattle.format.proofs.Indexed.{at-index, past-end}
+use Rattle.mesh.proofs.Passing.{Passing, begin, turn, fails, end}
 use Rattle.mesh.proofs.polygons.all_below.Statement.{statement}
 use Rattle.mesh.proofs.polygons.all_below.Tie as tie
 

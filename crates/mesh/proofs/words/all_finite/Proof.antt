@@ -4,7 +4,8 @@ use lib.ListN.{length, drop}
 use borrow.Author.Tests.{not-true, not-false}
 use borrow.Author.Needs.{needs}
 use Rattle.format.specs.Bytes.{finite}
-use Rattle.mesh.proofs.Passing.{Passing, begin, turn, fails, end, at-index, past-end}
+use Rattle.format.proofs.Indexed.{at-index, past-end}
+use Rattle.mesh.proofs.Passing.{Passing, begin, turn, fails, end}
 use Rattle.mesh.proofs.words.all_finite.Statement.{statement}
 use Rattle.mesh.proofs.words.all_finite.Tie as tie
 

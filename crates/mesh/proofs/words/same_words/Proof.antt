@@ -1,7 +1,7 @@
 use Prim.Native.Nat.{_-_}
 use lib.ListN.{length}
 use borrow.Author.Needs.{needs}
-use Rattle.mesh.proofs.Sameness.{different, Sameness, begin, turn, differ, end}
+use Rattle.format.proofs.Sameness.{different, Sameness, begin, turn, differ, end}
 use Rattle.mesh.proofs.words.same_words.Statement.{statement}
 use Rattle.mesh.proofs.words.same_words.Tie as tie
 

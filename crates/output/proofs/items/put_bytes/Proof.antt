@@ -3,7 +3,7 @@ use mathlib.Core.Path.{refl}
 use native.Mathlib.Omega.{arith}
 use lib.ListN.{length, drop}
 use borrow.Author.Needs.{needs}
-use Rattle.mesh.proofs.Passing.{past-end}
+use Rattle.format.proofs.Indexed.{past-end}
 use Rattle.output.proofs.Filling.{byte-more, nothing, a-byte, Filling, begin, room, turn, end}
 use Rattle.output.proofs.items.put_bytes.Statement.{statement}
 use Rattle.output.proofs.items.put_bytes.Tie as tie

@@ -8,7 +8,7 @@ use denote.Ref.{now}
 use Rattle.format.specs.Bytes.{sum, joined}
 use Rattle.format.specs.Canonical.{stringBytes}
 use Rattle.format.specs.Written.{pieces}
-use Rattle.mesh.proofs.Entries.{sum-index}
+use Rattle.format.proofs.Indexed.{sum-index}
 use Rattle.output.proofs.Filling.{Filling, begin, room, turn, end, strings-more, strings-none}
 use Rattle.output.proofs.items.put_strings.Statement.{statement}
 use Rattle.output.proofs.items.put_strings.Tie as tie

@@ -1,13 +1,14 @@
 use borrow.Author.Needs.{needs}
-use Prim.Native.Nat.{_-_}
+use Prim.Native.Nat.{ℕ, _-_}
 use mathlib.Core.Path.{_≡_, sym, ap, _∙_}
+use mathlib.Core.List.{List}
 use mathlib.Core.Bool.{true}
 use native.Mathlib.Omega.{arith}
 use lib.ListN.{length, take, drop}
 use Rattle.wire.specs.declared.header.Header.{Header}
 use Rattle.wire.specs.Answers.{HeaderAt}
 use Rattle.tables.specs.Listed.{namesTag}
-use Rattle.tables.proofs.Passing.{Turn, never-bad, turn}
+use Rattle.tables.proofs.Walking.{Turn, never-bad, turn}
 use Rattle.tables.proofs.Seeking.{Seeking, seek, unlisted, other, names-room, found}
 use Rattle.tables.proofs.names.fill_names.Statement.{statement}
 use Rattle.tables.proofs.names.fill_names.Tie as tie
@@ -19,10 +20,16 @@ abbrev μ-loop : tie.MeasureT-loop
 μ-loop file kind lengths₀ bytes₀ at₀ lengths bytes at = length file - at
 
 -- the chunk of this turn
-header : (x : tie.After-tag Inv-loop μ-loop) → HeaderAt 4 (x .before .before .before .before .before .before .before .before .args .file .now) (x .before .before .before .before .loop .at) (Header.Got (x .tag .given .0 .0) (x .tag .given .0 .1 .0) (x .tag .given .0 .1 .1 .0))
+abbrev file : tie.After-tag Inv-loop μ-loop → List ℕ
+file x = x .before .before .before .before .before .before .before .before .args .file .now
+
+abbrev place : tie.After-tag Inv-loop μ-loop → ℕ
+place x = x .before .before .before .before .loop .at
+
+header : (x : tie.After-tag Inv-loop μ-loop) → HeaderAt 4 (file x) (place x) (Header.Got (x .tag .given .0 .0) (x .tag .given .0 .1 .0) (x .tag .given .0 .1 .1 .0))
 header x = rw (x .tag .given .1) at (x .before .before .chunk-at .ensures)
 
-this : (x : tie.After-tag Inv-loop μ-loop) → Turn (x .before .before .before .before .loop .inv .walking) (x .tag .given .0 .0) (take (x .tag .given .0 .1 .0 - x .before .before .before .before .loop .at) (drop (x .before .before .before .before .loop .at) (x .before .before .before .before .before .before .before .before .args .file .now))) (x .tag .given .0 .1 .1 .0 .at)
+this : (x : tie.After-tag Inv-loop μ-loop) → Turn (x .before .before .before .before .loop .inv .walking) (x .tag .given .0 .0) (take (x .tag .given .0 .1 .0 - place x) (drop (place x) (file x))) (x .tag .given .0 .1 .1 .0 .at)
 this x = turn (x .before .before .before .before .loop .inv .walking) (header x)
 
 -- it holds the names

@@ -1,5 +1,6 @@
 use borrow.Author.Needs.{needs}
-use Prim.Native.Nat.{_-_}
+use Prim.Native.Nat.{ℕ, _-_}
+use mathlib.Core.List.{List}
 use native.Mathlib.Omega.{arith}
 use lib.ListN.{length}
 use Rattle.wire.specs.declared.header.Header.{Header}
@@ -16,7 +17,13 @@ abbrev μ-loop : tie.MeasureT-loop
 μ-loop file kind table₀ at₀ m₀ table at m = length file - at
 
 -- the chunk of this turn
-header : (x : tie.After-tag Inv-loop μ-loop) → HeaderAt 4 (x .before .before .before .before .before .before .before .args .file .now) (x .before .before .before .before .loop .at) (Header.Got (x .tag .given .0 .0) (x .tag .given .0 .1 .0) (x .tag .given .0 .1 .1 .0))
+abbrev file : tie.After-tag Inv-loop μ-loop → List ℕ
+file x = x .before .before .before .before .before .before .before .args .file .now
+
+abbrev place : tie.After-tag Inv-loop μ-loop → ℕ
+place x = x .before .before .before .before .loop .at
+
+header : (x : tie.After-tag Inv-loop μ-loop) → HeaderAt 4 (file x) (place x) (Header.Got (x .tag .given .0 .0) (x .tag .given .0 .1 .0) (x .tag .given .0 .1 .1 .0))
 header x = rw (x .tag .given .1) at (x .before .before .chunk-at .ensures)
 
 loop-holds : tie.Need-loop-holds Inv-loop μ-loop

@@ -1,5 +1,6 @@
 use borrow.Author.Needs.{needs}
-use Prim.Native.Nat.{_-_}
+use Prim.Native.Nat.{ℕ, _-_}
+use mathlib.Core.List.{List}
 use native.Mathlib.Omega.{arith}
 use lib.ListN.{length}
 use Rattle.wire.specs.declared.header.Header.{Header}
@@ -16,7 +17,13 @@ abbrev μ-loop : tie.MeasureT-loop
 μ-loop file kind names polygons₀ vertices₀ at₀ latest₀ polygons vertices at latest = length file - at
 
 -- the chunk of this turn
-header : (x : tie.After-tag Inv-loop μ-loop) → HeaderAt 4 (x .before .before .before .before .before .before .before .before .before .args .file .now) (x .before .before .before .before .loop .at) (Header.Got (x .tag .given .0 .0) (x .tag .given .0 .1 .0) (x .tag .given .0 .1 .1 .0))
+abbrev file : tie.After-tag Inv-loop μ-loop → List ℕ
+file x = x .before .before .before .before .before .before .before .before .before .args .file .now
+
+abbrev place : tie.After-tag Inv-loop μ-loop → ℕ
+place x = x .before .before .before .before .loop .at
+
+header : (x : tie.After-tag Inv-loop μ-loop) → HeaderAt 4 (file x) (place x) (Header.Got (x .tag .given .0 .0) (x .tag .given .0 .1 .0) (x .tag .given .0 .1 .1 .0))
 header x = rw (x .tag .given .1) at (x .before .before .chunk-at .ensures)
 
 loop-holds : tie.Need-loop-holds Inv-loop μ-loop
@@ -25,7 +32,7 @@ loop-holds c = begin (c .before .before .before .before .pre) (c .nothing-yet .e
 returns : tie.Need-returns Inv-loop μ-loop
 returns c =
     let u = c .before .before in
-    absurd (never-bad (u .before .before .loop .inv .left) (u .before .loop-test .taken) (rw (c .enum-told .given .1) at (u .chunk-at .ensures)))
+    absurd (never-bad (u .before .before .loop .inv .walking) (u .before .loop-test .taken) (rw (c .enum-told .given .1) at (u .chunk-at .ensures)))
 
 sub-put-chunk : tie.Need-sub-put-chunk Inv-loop μ-loop
 sub-put-chunk c = omega (arith, header (c .before) .inside)

@@ -2,7 +2,7 @@ use borrow.Author.Needs.{needs}
 use borrow.Author.Tests.{eq-eqb, ne-eqb}
 use Rattle.format.specs.Bytes.{number}
 use Rattle.format.specs.Bodies.{polygonsBody}
-use Rattle.tables.proofs.Parts.{lwo2-names, lwo2-polygons, lwo2-tagging}
+use Rattle.tables.proofs.Making.{holds-names, holds-polygons, holds-tagging}
 use Rattle.tables.proofs.Holding.{points-fit, points-put, names-put, polygons-room, polygons-put, tags-room, tags-put, nothing-new, lwo2-rest}
 use Rattle.tables.proofs.polygons.put_lwo2.Statement.{statement}
 use Rattle.tables.proofs.polygons.put_lwo2.Tie as tie
@@ -16,23 +16,28 @@ unfolding number
 returns c = points-put (eq-eqb _ _ (c .before .before .if1 .taken)) (rw (c .before .left .ensures) at (c .with-points .ensures))
 
 returns-2 : tie.Need-returns-2
-returns-2 c = names-put (lwo2-names (c .before .if2 .taken)) (c .with-names .ensures)
+unfolding number
+returns-2 c = names-put (holds-names _ (eq-eqb _ _ (c .before .if2 .taken))) (c .with-names .ensures)
 
 put-polygons-requires : tie.Need-put-polygons-requires
-put-polygons-requires c κs = polygons-room (λ points names. polygonsBody points) (lwo2-polygons (c .before .before .if3 .taken)) (c .before .before .before .before .before .before .before .before .pre)
+unfolding number
+put-polygons-requires c κs = polygons-room (λ points names. polygonsBody points) (holds-polygons (eq-eqb _ _ (c .before .before .if3 .taken))) (c .before .before .before .before .before .before .before .before .pre)
 
 returns-3 : tie.Need-returns-3
+unfolding number
 returns-3 c =
     let u = c .before .before .before .before .before in
-    polygons-put (λ points names. polygonsBody points) (lwo2-polygons (u .before .before .before .if3 .taken)) (u .put-polygons .ensures) (c .with-polygons .ensures)
+    polygons-put (λ points names. polygonsBody points) (holds-polygons (eq-eqb _ _ (u .before .before .before .if3 .taken))) (u .put-polygons .ensures) (c .with-polygons .ensures)
 
 put-tags-requires : tie.Need-put-tags-requires
-put-tags-requires c κs = tags-room (lwo2-tagging (c .before .before .if4 .taken)) (c .before .before .before .before .before .before .before .before .before .pre)
+unfolding number
+put-tags-requires c κs = tags-room (holds-tagging (eq-eqb _ _ (c .before .before .if4 .taken))) (c .before .before .before .before .before .before .before .before .before .pre)
 
 returns-4 : tie.Need-returns-4
+unfolding number
 returns-4 c =
     let u = c .before .before in
-    tags-put (lwo2-tagging (u .before .before .before .if4 .taken)) (u .put-tags .ensures)
+    tags-put (holds-tagging (eq-eqb _ _ (u .before .before .before .if4 .taken))) (u .put-tags .ensures)
 
 returns-5 : tie.Need-returns-5
 unfolding number

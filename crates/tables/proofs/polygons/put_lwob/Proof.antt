@@ -2,7 +2,7 @@ use borrow.Author.Needs.{needs}
 use borrow.Author.Tests.{eq-eqb, ne-eqb}
 use Rattle.format.specs.Bytes.{number}
 use Rattle.format.specs.Bodies.{facesBody, patchesBody}
-use Rattle.tables.proofs.Parts.{lwob-names, lwob-faces, lwob-patches}
+use Rattle.tables.proofs.Making.{holds-names, holds-faces, holds-patches}
 use Rattle.tables.proofs.Holding.{points-fit, points-put, names-put, polygons-room, polygons-put, nothing-new, lwob-rest}
 use Rattle.tables.proofs.polygons.put_lwob.Statement.{statement}
 use Rattle.tables.proofs.polygons.put_lwob.Tie as tie
@@ -16,23 +16,28 @@ unfolding number
 returns c = points-put (eq-eqb _ _ (c .before .before .if1 .taken)) (rw (c .before .left .ensures) at (c .with-points .ensures))
 
 returns-2 : tie.Need-returns-2
-returns-2 c = names-put (lwob-names (c .before .if2 .taken)) (c .with-names .ensures)
+unfolding number
+returns-2 c = names-put (holds-names _ (eq-eqb _ _ (c .before .if2 .taken))) (c .with-names .ensures)
 
 put-faces-requires : tie.Need-put-faces-requires
-put-faces-requires c κs = polygons-room facesBody (lwob-faces (c .before .before .if3 .taken)) (c .before .before .before .before .before .before .before .before .pre)
+unfolding number
+put-faces-requires c κs = polygons-room facesBody (holds-faces (eq-eqb _ _ (c .before .before .if3 .taken))) (c .before .before .before .before .before .before .before .before .pre)
 
 returns-3 : tie.Need-returns-3
+unfolding number
 returns-3 c =
     let u = c .before .before .before .before .before in
-    polygons-put facesBody (lwob-faces (u .before .before .before .if3 .taken)) (u .put-faces .ensures) (c .with-polygons .ensures)
+    polygons-put facesBody (holds-faces (eq-eqb _ _ (u .before .before .before .if3 .taken))) (u .put-faces .ensures) (c .with-polygons .ensures)
 
 put-patches-requires : tie.Need-put-patches-requires
-put-patches-requires c κs = polygons-room patchesBody (lwob-patches (c .before .before .if4 .taken)) (c .before .before .before .before .before .before .before .before .before .pre)
+unfolding number
+put-patches-requires c κs = polygons-room patchesBody (holds-patches (eq-eqb _ _ (c .before .before .if4 .taken))) (c .before .before .before .before .before .before .before .before .before .pre)
 
 returns-4 : tie.Need-returns-4
+unfolding number
 returns-4 c =
     let u = c .before .before .before .before .before in
-    polygons-put patchesBody (lwob-patches (u .before .before .before .if4 .taken)) (u .put-patches .ensures) (c .with-polygons2 .ensures)
+    polygons-put patchesBody (holds-patches (eq-eqb _ _ (u .before .before .before .if4 .taken))) (u .put-patches .ensures) (c .with-polygons2 .ensures)
 
 returns-5 : tie.Need-returns-5
 unfolding number

@@ -1,12 +1,13 @@
 use borrow.Author.Needs.{needs}
-use Prim.Native.Nat.{_-_}
+use Prim.Native.Nat.{ℕ, _-_}
 use mathlib.Core.Path.{sym, _∙_}
+use mathlib.Core.List.{List}
 use native.Mathlib.Omega.{arith}
 use lib.ListN.{length}
 use lib.Seq.{length-take-le}
 use Rattle.wire.specs.declared.header.Header.{Header}
 use Rattle.wire.specs.Answers.{HeaderAt}
-use Rattle.tables.proofs.Passing as walking
+use Rattle.tables.proofs.Walking as walking
 use Rattle.tables.proofs.Settled.{Settling, settle, kept, listed-room, turn, settled}
 use Rattle.tables.proofs.records.fill_records.Statement.{statement}
 use Rattle.tables.proofs.records.fill_records.Tie as tie
@@ -18,7 +19,13 @@ abbrev μ-loop : tie.MeasureT-loop
 μ-loop file kind count lengths bytes records₀ at₀ records at = length file - at
 
 -- the chunk of this turn
-header : (x : tie.After-tag Inv-loop μ-loop) → HeaderAt 4 (x .before .before .before .before .before .before .before .before .before .before .before .before .before .args .file .now) (x .before .before .before .before .loop .at) (Header.Got (x .tag .given .0 .0) (x .tag .given .0 .1 .0) (x .tag .given .0 .1 .1 .0))
+abbrev file : tie.After-tag Inv-loop μ-loop → List ℕ
+file x = x .before .before .before .before .before .before .before .before .before .before .before .before .before .args .file .now
+
+abbrev place : tie.After-tag Inv-loop μ-loop → ℕ
+place x = x .before .before .before .before .loop .at
+
+header : (x : tie.After-tag Inv-loop μ-loop) → HeaderAt 4 (file x) (place x) (Header.Got (x .tag .given .0 .0) (x .tag .given .0 .1 .0) (x .tag .given .0 .1 .1 .0))
 header x = rw (x .tag .given .1) at (x .before .before .chunk-at .ensures)
 
 put-missing-requires : tie.Need-put-missing-requires Inv-loop μ-loop

@@ -1,7 +1,7 @@
 use Prim.Native.Nat.{_-_}
 use lib.ListN.{length}
 use borrow.Author.Needs.{needs}
-use Rattle.tables.proofs.Sameness.{different, Sameness, begin, turn, differ, end}
+use Rattle.format.proofs.Sameness.{different, Sameness, begin, turn, differ, end}
 use Rattle.tables.proofs.records.same_name.Statement.{statement}
 use Rattle.tables.proofs.records.same_name.Tie as tie
 

@@ -7,7 +7,7 @@ use borrow.Author.Needs.{needs}
 use denote.Ref.{now}
 use Rattle.format.specs.Bytes.{joined}
 use Rattle.format.specs.Canonical.{bytes, unlessEmpty}
-use Rattle.laws.proofs.Facts.{length-entries}
+use Rattle.format.proofs.Facts.{length-entries}
 use Rattle.laws.proofs.Items.{length-bytes}
 use Rattle.output.specs.Outputs.{chunksBytes}
 use Rattle.output.proofs.Filling.{nothing}

@@ -1,13 +1,14 @@
--- Facts about tests and lists that the theorems use. Assumes nothing.
+-- Facts about tests and about joined lists. Assumes nothing.
 use Prim.Native.Nat.{ℕ, zero, suc, _*_, _≤_}
-use mathlib.Core.Path.{_≡_, refl, _∙_}
-use mathlib.Core.List.{List, [], _∷_, _++_, map}
+use mathlib.Core.Path.{_≡_, refl, sym, ap, _∙_}
+use mathlib.Core.List.{List, [], _∷_, _++_, map, map-append}
 use mathlib.Core.Bool.{Bool, true, false, _&&_, false≢true, and-eq-true-iff}
 use native.Mathlib.Omega.{arith}
 use lib.Dec.{leb}
 use lib.ListN.{length, take, drop, getD, length-append, take-append-drop}
 use borrow.Author.Tests.{leb-true}
-use Rattle.format.specs.Bytes.{between, every, all, joined}
+use Rattle.format.specs.Bytes.{between, every, all, sum, joined}
+use Rattle.format.proofs.Puts.{joined-append}
 
 -- from two constructors that are told to be equal, `cc` proves this equation, and anything follows from it
 pub impossible : {P : Type 0} → _≡_ {A = ℕ} 0 1 → P
@@ -65,3 +66,18 @@ pub length-entries : {A : Type 0} (n : ℕ) (f : A → List ℕ) → ((x : A) �
 unfolding joined
 length-entries n f long [] = omega arith
 length-entries n f long (x ∷ xs) = length-append (f x) (joined (map f xs)) ∙ omega (arith, long x, length-entries n f long xs)
+
+pub length-joined : {A : Type 0} (xss : List (List A)) → sum (map length xss) ≡ length (joined xss)
+unfolding joined sum
+length-joined [] = refl
+length-joined (xs ∷ xss) = omega (arith, length-append xs (joined xss), length-joined xss)
+
+pub joined-joined : {A B : Type 0} (f : A → List (List B)) (xs : List A) → joined (map (λ x. joined (f x)) xs) ≡ joined (joined (map f xs))
+unfolding joined
+joined-joined f [] = refl
+joined-joined f (x ∷ xs) = ap (λ l. joined (f x) ++ l) (joined-joined f xs) ∙ sym (joined-append (f x) (joined (map f xs)))
+
+pub map-joined : {A B C : Type 0} (g : B → C) (f : A → List B) (xs : List A) → joined (map (λ x. map g (f x)) xs) ≡ map g (joined (map f xs))
+unfolding joined
+map-joined g f [] = refl
+map-joined g f (x ∷ xs) = ap (λ l. map g (f x) ++ l) (map-joined g f xs) ∙ sym (map-append g (f x) (joined (map f xs)))

@@ -6,8 +6,8 @@ use mathlib.Core.Bool.{true, false, _&&_, and-false}
 use lib.Dec.{eqb}
 use lib.ListN.{length, getD, drop}
 use borrow.Author.Tests.{eq-eqb, ne-eqb}
 use Rattle.format.specs.Bytes.{same}
-use Rattle.mesh.proofs.Passing.{at-index, past-end}
+use Rattle.format.proofs.Indexed.{at-index, past-end}
 
 pub different : (xs ys : List ℕ) → (length xs ≡ length ys → ⊥) → false ≡ same xs ys
 unfolding same
