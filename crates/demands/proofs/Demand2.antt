@@ -17,7 +17,8 @@ use Rattle.format.specs.Canonical.{canonical}
 use Rattle.format.specs.Written.{meshFrom, Written, says, written, outputAfter}
 use Rattle.laws.proofs.RoundTrip.{round-trip}
 use Rattle.laws.proofs.Tables.{mesh-from-tables, tables-back, tables-of-mesh}
-use Rattle.laws.proofs.WrittenBack.{tableWords, wrote, written-back}
+use Rattle.laws.specs.Conditions.{tableWords}
+use Rattle.laws.proofs.WrittenBack.{wrote, written-back}
 use Rattle.reader.specs.declared.Answer.{Answer as ReadAnswer}
 use Rattle.reader.specs.Reads.{answerAs as readAs, ReadOf}
 use Rattle.writer.specs.declared.Answer.{Answer as WriteAnswer}

@@ -20,7 +20,8 @@ use Rattle.format.specs.Canonical.{bytes, chunkBytes, formBytes}
 use Rattle.format.specs.Answer.{Answer, answer, fits, filled}
 use Rattle.format.proofs.Facts.{every-at}
 use Rattle.laws.proofs.Room as room
-use Rattle.laws.proofs.Room.{Longer, more-room}
+use Rattle.laws.specs.Conditions.{Longer}
+use Rattle.laws.proofs.Room.{more-room}
 use Rattle.reader.specs.declared.Answer.{Answer as ReadAnswer}
 use Rattle.reader.specs.Reads.{answerAs as readAs, ReadOf}
 use Rattle.demands.specs.Places.{first}

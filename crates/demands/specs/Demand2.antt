@@ -12,8 +12,7 @@ use Rattle.format.specs.Rules.{gives, rules}
 use Rattle.format.specs.Answer.{Answer, fits, over, filled}
 use Rattle.format.specs.Canonical.{canonical}
 use Rattle.format.specs.Written.{goodMesh, meshFrom, isMesh, says}
-use Rattle.laws.proofs.RoundTrip.{inWords}
-use Rattle.laws.proofs.WrittenBack.{tableWords}
+use Rattle.laws.specs.Conditions.{inWords, tableWords}
 use Rattle.reader.specs.declared.Answer.{Answer as ReadAnswer}
 use Rattle.reader.specs.Reads.{answerAs as readAs, ReadOf}
 use Rattle.writer.specs.declared.Answer.{Answer as WriteAnswer}

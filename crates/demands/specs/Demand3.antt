@@ -13,8 +13,7 @@ use Rattle.format.specs.Mesh.{Mesh, Tables, tables, Needs, needs, pointSize, po
 use Rattle.format.specs.Rules.{form, gives, rules}
 use Rattle.format.specs.Answer.{Answer, filled}
 use Rattle.format.specs.Canonical.{bytes}
-use Rattle.laws.proofs.Room.{Longer}
-use Rattle.laws.proofs.Unlisted.{UnlistedChunk}
+use Rattle.laws.specs.Conditions.{Longer, UnlistedChunk}
 use Rattle.reader.specs.declared.Answer.{Answer as ReadAnswer}
 use Rattle.reader.specs.Reads.{answerAs as readAs, ReadOf}
 use Rattle.demands.specs.Places.{Boundary}

@@ -21,7 +21,8 @@ use Rattle.format.specs.Canonical.{bytes, vxBytes, stringBytes, chunkBytes, poi
 use Rattle.format.specs.Written.{goodPolygon, noZero, goodNames}
 use Rattle.format.proofs.Facts.{every-at, all-first, all-rest, all-part, between-true, length-entries}
 use Rattle.laws.proofs.Reading.{Reads, Ends, ends, reads-give, reads-then, ends-then, reads-as, ends-as, reads-unless, Row, none, more, reads-times, ends-many, rows, rows-same}
-use Rattle.laws.proofs.Items.{reads-item, length-bytes, reads-uint, word32, floats, reads-floats, reads-vx, reads-string}
+use Rattle.laws.specs.Conditions.{word32}
+use Rattle.laws.proofs.Items.{reads-item, length-bytes, reads-uint, floats, reads-floats, reads-vx, reads-string}
 use Rattle.laws.proofs.Chunks.{isTag, more-sub, ends-of-length}
 
 -- ---- points

@@ -14,6 +14,7 @@ use Rattle.format.specs.Canonical.{bytes, vxBytes, stringBytes}
 use Rattle.format.specs.Written.{noZero}
 use Rattle.format.proofs.Facts.{all-first, all-rest}
 use Rattle.laws.proofs.Reading.{Reads, reads-then, reads-as, reads-unless}
+use Rattle.laws.specs.Conditions.{word32}
 
 -- ---- numbers
 
@@ -43,9 +44,6 @@ reads-uint k n small = record { here = rw (number-bytes k n small) at (reads-as 
 -- ---- floats
 
 -- a word of 32 bits, as a table and a file hold it
-abbrev pub word32 : ℕ → Bool
-word32 n = ltb n (2 ^ 32)
-
 reads-float : (n : ℕ) → finite n ≡ true → word32 n ≡ true → Reads float (bytes 4 n) n
 unfolding float
 reads-float n known narrow = record { here = reads-unless _ finite (reads-uint 4 n (ltb-true n (2 ^ 32) narrow)) known .here }

@@ -19,17 +19,9 @@ use Rattle.format.specs.Bodies.{Part}
 use Rattle.format.specs.Rules.{Outcome, refused, gives, judged, meshOf, outcome, rules}
 use Rattle.format.specs.Answer.{fits, Answer, answer, filled, tablesAfter}
 use Rattle.format.proofs.Facts.{every-at}
+use Rattle.laws.specs.Conditions.{Longer}
 
 -- ---- longer tables
-
--- each table of u is as long as t's at least; what stands in them is not looked at
-pub record Longer (t u : Tables) : Type 0 where
-  pub points : length (t .points) ≤ length (u .points)
-  pub polygons : length (t .polygons) ≤ length (u .polygons)
-  pub vertices : length (t .vertices) ≤ length (u .vertices)
-  pub names : length (t .names) ≤ length (u .names)
-  pub nameBytes : length (t .nameBytes) ≤ length (u .nameBytes)
-  pub records : length (t .records) ≤ length (u .records)
 
 -- what was long enough still is
 still : (n a b : ℕ) → a ≤ b → leb n a ≡ true → leb n b ≡ true

@@ -2,7 +2,7 @@
 use Prim.Native.Nat.{ℕ, _+_, _^_, _≤_}
 use mathlib.Core.Path.{_≡_, refl, _∙_}
 use mathlib.Core.List.{List, [], _∷_, map, append-nil}
-use mathlib.Core.Bool.{Bool, true, _&&_, and-eq-true-iff}
+use mathlib.Core.Bool.{true, and-eq-true-iff}
 use mathlib.Core.Option.{none}
 use native.Mathlib.Omega.{arith}
 use lib.ListN.{length}
@@ -17,7 +17,7 @@ use Rattle.format.specs.Rules.{start, after, when_read_, judge, located, walk, 
 use Rattle.format.specs.Canonical.{bytes, chunkBytes, runs, unlessEmpty, surfaceChunks, canonicalChunks, formBytes, encoded, canonical}
 use Rattle.format.specs.Written.{goodNames, goodMesh}
 use Rattle.format.proofs.Facts.{all-and}
-use Rattle.laws.proofs.Items.{word32}
+use Rattle.laws.specs.Conditions.{word32, inWords}
 use Rattle.laws.proofs.Tiles.{inFront, chunks-row}
 use Rattle.laws.proofs.Bodies.{goodPoint}
 use Rattle.laws.proofs.Walk.{partsOf, Judged, row-judged, walk-judged, asRead, on-names, on-points, on-runs, on-surfaces, counted}
@@ -25,10 +25,6 @@ use Rattle.laws.proofs.Polygons.{joined-runs}
 use Rattle.laws.proofs.Meshes.{Good, good, outcome-back}
 use Rattle.laws.proofs.Form.{rules-form}
 use Rattle.laws.proofs.Lengths.{Counts, counts}
-
--- every float of the mesh has 32 bits, which in the tables is their type
-unfoldable pub inWords : Mesh → Bool
-inWords m = all (λ p. all word32 (pointWords p)) (m .points) && all (λ s. all word32 (levels s)) (m .surfaces)
 
 -- the chunks of its canonical file are judged fine, one after the other
 judged-chunks : (m : Mesh) → Good m → inWords m ≡ true → Counts m fileLimit → Judged start (canonicalChunks m) (partsOf m)

@@ -1,30 +1,27 @@
--- A whole chunk with an unlisted tag, put in between two chunks of a file that the rules give a mesh, changes only the skipped count. It is shown over
--- chunks, and then over the bytes of two files; one argument serves LWOB and LWO2. Assumes nothing.
-use Prim.Native.Nat.{ℕ, _+_, _≤_}
+-- A whole chunk with an unlisted tag, put in between two chunks of a file that the rules give a mesh, changes only the skipped count. One
+-- argument serves LWOB and LWO2. Assumes nothing.
+use Prim.Native.Nat.{ℕ, _+_}
 use mathlib.Core.Path.{_≡_, refl, ap, _∙_}
 use mathlib.Core.List.{List, [], _∷_, _++_, map}
 use mathlib.Core.Bool.{true}
 use native.Mathlib.Omega.{arith}
 use native.Mathlib.Nat.{zero-add}
-use lib.ListN.{length, take, drop, length-append}
+use lib.ListN.{length}
 use borrow.Author.Tests.{not-true}
-use Rattle.format.specs.Bytes.{_is_, number, all, sum, joined}
-use Rattle.format.specs.Limits.{fileLimit}
+use Rattle.format.specs.Bytes.{_is_, sum, joined}
 use Rattle.format.specs.Items.{fine, _then_}
 use Rattle.format.specs.declared.Kind.{Kind}
 use Rattle.format.specs.declared.Kind.the-variants.{LWOB, LWO2}
-use Rattle.format.specs.Chunks.{Chunk, sizeOf, lengthOf, wellFormed, Chunks, finished, broken, chunk, chunks}
+use Rattle.format.specs.Chunks.{Chunk, sizeOf, Chunks, finished, broken, chunk}
 use Rattle.format.specs.Mesh.{Mesh, Polygon}
 use Rattle.format.specs.Bodies.{Part, points, names, polygons, tagging, surface, skipped}
-use Rattle.format.specs.Rules.{unlistedTag, Before, start, after, judge, walk, pointsOf, namesOf, surfacesOf, skippedOf, detailsOf, polygonsIn, meshOf, gives, form, outcome, rules}
-use Rattle.format.specs.Canonical.{formBytes}
+use Rattle.format.specs.Rules.{unlistedTag, Before, start, after, judge, walk, pointsOf, namesOf, surfacesOf, skippedOf, detailsOf, polygonsIn, meshOf, gives, outcome}
 use Rattle.format.proofs.Facts.{impossible, all-at}
 use Rattle.format.proofs.Verdicts.{then-fine}
 use Rattle.format.proofs.Walks.{next}
-use Rattle.laws.proofs.Chunks.{chunkIn, reads-whole}
-use Rattle.laws.proofs.Tiles.{inFront, next-chunk, chunks-row, Tiled, tiled}
+use Rattle.laws.proofs.Tiles.{inFront}
 use Rattle.laws.proofs.Walk.{walk-on}
-use Rattle.laws.proofs.Form.{typeOfKind, isByte, outcomeOf, rules-form, form-is, was-fine}
+use Rattle.laws.proofs.Form.{outcomeOf, was-fine}
 
 -- ---- unlisted tags
 
@@ -107,33 +104,3 @@ inserted-chunk kind cs t body rest m k d u e =
     let i = put-in kind start 12 12 t body cs rest (read .0) u (read .1) in
     let given = rw (read .1, ← i .whole) at e in
     rw (i .walks, mesh-same kind (i .front) (i .back), sums skippedOf (i .front) (i .back), sums detailsOf (i .front) (i .back), zero-add) (cc (given))
-
--- ---- over bytes
-
--- c is one whole chunk, whatever its body holds, and its tag is unlisted
-pub record UnlistedChunk (kind : Kind) (c : List ℕ) : Type 0 where
-  pub formed : wellFormed 4 c ≡ true
-  pub exact : length c ≡ sizeOf 4 (lengthOf 4 c)
-  pub tag : unlistedTag kind (number (take 4 c)) ≡ true
-
--- Two files of one kind. The chunks of the first are those of a and x, and of the second those of a, c and x. That a holds whole chunks says that c stands
--- where a chunk ends.
-pub inserted : (kind : Kind) (a c x : List ℕ) (cs : List Chunk) (m : Mesh) (k d : ℕ) → chunks a ≡ inFront cs finished → UnlistedChunk kind c
-    → 12 + length (a ++ (c ++ x)) ≤ fileLimit
-    → rules (formBytes (typeOfKind kind) (a ++ x)) ≡ gives m k d → rules (formBytes (typeOfKind kind) (a ++ (c ++ x))) ≡ gives m (1 + k) d
-unfolding sizeOf
-inserted kind a c x cs m k d whole u fits e =
-    let t : Tiled a cs = tiled a cs whole in
-    let behind : (y : List ℕ) → chunks (a ++ y) ≡ inFront cs (chunks y) = λ y. rw (t .parts) (chunks-row (t .row) y) in
-    let one : chunks (c ++ x) ≡ chunk (number (take 4 c)) (chunkIn 4 c .body) (chunks x) = next-chunk (reads-whole 4 c (u .formed) (u .exact)) x in
-    let short : 12 + length (a ++ x) ≤ fileLimit = omega (arith, length-append a x, length-append a (c ++ x), length-append c x) in
-    let given : outcomeOf kind (inFront cs (chunks x)) ≡ gives m k d = rw (← behind x, ← rules-form kind (a ++ x) short) e in
-    rules-form kind (a ++ (c ++ x)) fits ∙ rw (behind (c ++ x), one) (inserted-chunk kind cs (number (take 4 c)) (chunkIn 4 c .body) (chunks x) m k d (u .tag) given)
-
--- and so for every file of bytes that the rules give a mesh
-pub inserted-in-file : (s : List ℕ) (kind : Kind) (a c x : List ℕ) (cs : List Chunk) (m : Mesh) (k d : ℕ) → all isByte s ≡ true → form s ≡ fine kind → drop 12 s ≡ a ++ x
-    → chunks a ≡ inFront cs finished → UnlistedChunk kind c → 12 + length (a ++ (c ++ x)) ≤ fileLimit
-    → rules s ≡ gives m k d → rules (formBytes (typeOfKind kind) (a ++ (c ++ x))) ≡ gives m (1 + k) d
-inserted-in-file s kind a c x cs m k d ok f cut whole u fits e =
-    let same : s ≡ formBytes (typeOfKind kind) (a ++ x) = form-is s kind ok f ∙ ap (formBytes (typeOfKind kind)) cut in
-    inserted kind a c x cs m k d whole u fits (rw same at e)

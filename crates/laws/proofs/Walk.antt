@@ -21,7 +21,7 @@ use Rattle.format.specs.Canonical.{stringBytes, pointBytes, polygonBytes, typeO
 use Rattle.format.specs.Written.{goodPolygon, goodNames, goodSurface}
 use Rattle.format.proofs.Facts.{every-at, all-first, all-rest, all-append}
 use Rattle.laws.proofs.Reading.{wholly, Row, none, more}
-use Rattle.laws.proofs.Items.{word32}
+use Rattle.laws.specs.Conditions.{word32}
 use Rattle.laws.proofs.Chunks.{isTag, shorter, reads-chunk}
 use Rattle.laws.proofs.Tiles.{inFront}
 use Rattle.laws.proofs.Bodies.{goodPoint, ends-points, good-name, ends-names, bare, good-polygon, ends-run, ends-pairs, valuesOf, ends-surface}

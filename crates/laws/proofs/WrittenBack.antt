@@ -2,7 +2,7 @@
 use Prim.Native.Nat.{ℕ, _≤_}
 use mathlib.Core.Path.{_≡_, refl}
 use mathlib.Core.List.{List, [], _∷_, map}
-use mathlib.Core.Bool.{Bool, true, false, not, _&&_, and-eq-true-iff}
+use mathlib.Core.Bool.{Bool, true, false, not, and-eq-true-iff}
 use native.Mathlib.Omega.{arith}
 use lib.Dec.{ltb}
 use lib.ListN.{length, take, drop}
@@ -17,13 +17,9 @@ use Rattle.format.specs.Answer.{answer, fits, over, filled, tablesAfter}
 use Rattle.format.specs.Canonical.{canonical}
 use Rattle.format.specs.Written.{meshFrom, goodMesh, isMesh, says, written, outputAfter}
 use Rattle.format.proofs.Facts.{all-append, all-part}
-use Rattle.laws.proofs.Items.{word32}
-use Rattle.laws.proofs.RoundTrip.{inWords, round-trip}
+use Rattle.laws.specs.Conditions.{word32, inWords, tableWords}
+use Rattle.laws.proofs.RoundTrip.{round-trip}
 use Rattle.laws.proofs.Tables.{good-tables, tables-back, mesh-from-tables, tables-of-mesh}
-
--- the words of the two tables that hold floats are words of 32 bits, which is their type
-unfoldable pub tableWords : Tables → Bool
-tableWords t = all word32 (t .points) && all word32 (t .records)
 
 all-each : {A B : Type 0} (p : B → Bool) (f : A → List B) (q : A → Bool) → ((x : A) → all p (f x) ≡ true → q x ≡ true) → (xs : List A) → all p (joined (map f xs)) ≡ true → all q xs ≡ true
 unfolding joined all

@@ -1,0 +1,44 @@
+-- What the theorems ask of tables, meshes and chunks.
+use Prim.Native.Nat.{ℕ, _≤_, _^_}
+use mathlib.Core.Path.{_≡_}
+use mathlib.Core.List.{List}
+use mathlib.Core.Bool.{Bool, true, _&&_}
+use lib.Dec.{ltb}
+use lib.ListN.{length, take}
+use Rattle.format.specs.declared.Kind.{Kind}
+use Rattle.format.specs.Bytes.{number, all}
+use Rattle.format.specs.Chunks.{sizeOf, lengthOf, wellFormed}
+use Rattle.format.specs.Mesh.{Mesh, Tables, pointWords, levels}
+use Rattle.format.specs.Rules.{unlistedTag}
+
+-- ---- words
+
+abbrev pub word32 : ℕ → Bool
+word32 n = ltb n (2 ^ 32)
+
+-- the floats of a mesh have 32 bits
+unfoldable pub inWords : Mesh → Bool
+inWords m = all (λ p. all word32 (pointWords p)) (m .points) && all (λ s. all word32 (levels s)) (m .surfaces)
+
+-- the words of the two tables that hold floats are words of 32 bits, which is their type
+unfoldable pub tableWords : Tables → Bool
+tableWords t = all word32 (t .points) && all word32 (t .records)
+
+-- ---- room
+
+-- each table of u is as long as t's at least; what stands in them is not looked at
+pub record Longer (t u : Tables) : Type 0 where
+  pub points : length (t .points) ≤ length (u .points)
+  pub polygons : length (t .polygons) ≤ length (u .polygons)
+  pub vertices : length (t .vertices) ≤ length (u .vertices)
+  pub names : length (t .names) ≤ length (u .names)
+  pub nameBytes : length (t .nameBytes) ≤ length (u .nameBytes)
+  pub records : length (t .records) ≤ length (u .records)
+
+-- ---- chunks
+
+-- c is one whole chunk, whatever its body holds, and its tag is unlisted
+pub record UnlistedChunk (kind : Kind) (c : List ℕ) : Type 0 where
+  pub formed : wellFormed 4 c ≡ true
+  pub exact : length c ≡ sizeOf 4 (lengthOf 4 c)
+  pub tag : unlistedTag kind (number (take 4 c)) ≡ true
