@@ -1,8 +1,8 @@
 -- The points of a PNTS body, whose length was judged first: no float of them is cut. Assumes nothing.
 use mathlib.Core.Path.{_≡_, refl, sym, _∙_}
-use mathlib.Core.Bool.{Bool, true, false, _&&_}
+use mathlib.Core.Bool.{Bool, true, false, not, _&&_}
 use mathlib.Core.List.{List}
-use Prim.Native.Nat.{ℕ, _+_, _-_, _/_, _%_, _≤_, _<_}
+use Prim.Native.Nat.{ℕ, _+_, _-_, _*_, _/_, _%_, _≤_, _<_}
 use native.Mathlib.Omega.{arith}
 use lib.Dec.{eqb, leb}
 use lib.ListN.{length, take, drop}
@@ -20,6 +20,13 @@ use Rattle.format.proofs.Places.{uint-whole, float-is, float-bad}
 use Rattle.format.proofs.Saying.{on, off, given, right-length, used-up, faulty}
 use Rattle.format.proofs.Entries.{Manying, many-begin, many-turn, many-stop, many-end}
 use Rattle.bodies.specs.Answers.{pointCount, PointAt}
+
+-- ---- one float
+
+-- the exponent is in the high half
+pub high-half : (high low : ℕ) → low < 65536 → not (eqb (high / 128 % 256) 255) ≡ finite (high * 65536 + low)
+unfolding finite
+high-half high low h = let e : high / 128 % 256 ≡ (high * 65536 + low) / 8388608 % 256 = omega arith in rw e
 
 -- ---- one point, of which no float is cut
 

@@ -4,3 +4,5 @@ pub mod Naming
 pub mod Sameness
 pub mod Signs
 pub mod Tallying
+pub mod Runs
+pub mod Pairs

@@ -85,7 +85,7 @@ fn details(s: &[u8], c: Cursor, points: usize, names: usize) -> Run
 }
 
 // The details that follow a surface number: none unless it is negative.
-fn details_after(s: &[u8], c: Cursor, sign: Sign, points: usize, names: usize) -> Run
+pub fn details_after(s: &[u8], c: Cursor, sign: Sign, points: usize, names: usize) -> Run
     ensures { λ r. ⌜ DetailsAt points names sign (now (s .entry)) (c .at) (runAs (now (s .entry)) r) ⌝ }
 {
     if sign.negative {

@@ -1,6 +1,6 @@
 // The body of a PNTS chunk.
 ghost use mathlib.Core.Path.{_≡_};
-ghost use Prim.Native.Nat.{_+_, _≤_};
+ghost use Prim.Native.Nat.{_+_, _*_, _≤_};
 ghost use lib.ListN.{length, take, drop};
 ghost use Rattle.format.specs.Bytes.{number, finite};
 ghost use Rattle.format.specs.Bodies.{wholePoints, pointsBody};
@@ -9,9 +9,8 @@ ghost use Rattle.bodies.specs.Answers.{PointAt, pointCount, pointsAs};
 use format::Fault;
 use format::Kind;
 use wire::Refusal;
-use wire::cursor::is_finite;
 use wire::cursor::left;
-use wire::cursor::word;
+use wire::cursor::pair;
 
 // How many points there are.
 pub enum Points {
@@ -29,12 +28,19 @@ fn whole_points(n: usize, kind: Kind) -> bool
     }
 }
 
-// The float at a place is finite. Its sign and its low bits are not looked at.
+// The float with these halves is finite. Its exponent is in the high half, so that its low half is not looked at.
+fn finite_halves(high: u16, low: u16) -> bool
+    ensures { λ r. ⌜ r ≡ finite (high * 65536 + low) ⌝ }
+{
+    high / 128 % 256 != 255
+}
+
+// The float at a place is finite.
 fn finite_at(s: &[u8], at: usize) -> bool
     requires { ⌜ at + 4 ≤ length (now s) ⌝ }
     ensures { λ r. ⌜ r ≡ finite (number (take 4 (drop at (now (s .entry))))) ⌝ }
 {
-    is_finite(word(s, at))
+    finite_halves(pair(s, at), pair(s, at + 2))
 }
 
 // The place of the first float of the point at `at` that is not finite, or of the point's end. No float is cut, since the body's length is judged first.

@@ -1,9 +1,11 @@
 // The vertices of a polygon: each is the number of a point.
-ghost use lib.ListN.{length};
+ghost use Prim.Native.Nat.{_-_, _*_, _≤_};
+ghost use lib.ListN.{length, drop};
 ghost use Rattle.format.specs.Items.{times};
 ghost use Rattle.format.specs.Bodies.{vertex, lwobVertices, lwo2Vertices};
-ghost use Rattle.format.specs.Said.{Keeps, each};
+ghost use Rattle.format.specs.Said.{Keeps, Sound, each};
 ghost use Rattle.wire.specs.Answers.{NumberAt, ItemAt, runAs};
+ghost use Rattle.wire.specs.Whole.{WholeAt};
 ghost use Rattle.bodies.specs.Answers.{Below, index, vertexBytes};
 use format::Fault;
 use format::Kind;
@@ -12,6 +14,10 @@ use wire::Run;
 use wire::cursor::Cursor;
 use wire::cursor::Item;
 use wire::cursor::Number;
+use wire::cursor::left;
+use wire::cursor::pair;
+use wire::whole::Whole;
+use wire::whole::vx_at;
 
 // An item that has to be below a limit. That it is cut comes before its value, so it is taken apart here, once for every such item.
 pub fn below(n: Number, limit: usize, why: Fault) -> Item
@@ -44,8 +50,22 @@ pub fn vertex(s: &[u8], c: Cursor, kind: Kind, points: usize) -> Item
     below(index(s, c, kind), points, Fault::VertexNumber)
 }
 
-// So many vertices, which were announced by a count.
-fn vertex_run(s: &[u8], from: Cursor, n: usize, kind: Kind, points: usize) -> Run
+// The number of a point that is known not to be cut.
+pub fn index_at(s: &[u8], at: usize, kind: Kind) -> Whole
+    requires { ⌜ Sound (index kind at (drop at (now s))) ⌝ }
+    ensures { λ r. ⌜ WholeAt (index kind) (now (s .entry)) at r ⌝ }
+{
+    match kind {
+        Kind::LWOB => Whole {
+            number: pair(s, at) as u32,
+            next: at + 2,
+        },
+        Kind::LWO2 => vx_at(s, at),
+    }
+}
+
+// The vertices of a run that may reach beyond the end, so that each may be cut.
+fn run_near_end(s: &[u8], from: Cursor, n: usize, kind: Kind, points: usize) -> Run
     ensures { λ r. ⌜ Keeps (times n (vertex (index kind) points)) length (each 2) (now (s .entry)) (from .at) (runAs (now (s .entry)) r) ⌝ }
 {
     let mut c = from;
@@ -62,6 +82,38 @@ fn vertex_run(s: &[u8], from: Cursor, n: usize, kind: Kind, points: usize) -> Ru
         }
     }
     Run::Got(n, c)
+}
+
+// The vertices of a run that four bytes each are left for. An index takes no more, so that none is cut, and its number alone is judged.
+fn run_before_end(s: &[u8], from: Cursor, n: usize, kind: Kind, points: usize) -> Run
+    requires { ⌜ n * 4 ≤ length (now s) - from .at ⌝ }
+    ensures { λ r. ⌜ Keeps (times n (vertex (index kind) points)) length (each 2) (now (s .entry)) (from .at) (runAs (now (s .entry)) r) ⌝ }
+{
+    let mut at = from.at;
+    let mut left = n;
+    while 0 < left {
+        let v = index_at(s, at, kind);
+        if points <= v.number as usize {
+            return Run::Stop(Refusal {
+                why: Fault::VertexNumber,
+                at,
+            });
+        }
+        at = v.next;
+        left -= 1;
+    }
+    Run::Got(n, Cursor { at })
+}
+
+// So many vertices, which were announced by a count. Nearly all runs end well before the body does, so that what is left is tested once for a run.
+fn vertex_run(s: &[u8], from: Cursor, n: usize, kind: Kind, points: usize) -> Run
+    ensures { λ r. ⌜ Keeps (times n (vertex (index kind) points)) length (each 2) (now (s .entry)) (from .at) (runAs (now (s .entry)) r) ⌝ }
+{
+    if n <= left(s, from.at) / 4 {
+        run_before_end(s, from, n, kind, points)
+    } else {
+        run_near_end(s, from, n, kind, points)
+    }
 }
 
 // How many vertices a polygon of an LWOB file has.

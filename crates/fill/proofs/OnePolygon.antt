@@ -8,17 +8,19 @@ use lib.Dec.{leb}
 use lib.ListN.{length, drop, set}
 use Rattle.format.specs.declared.Kind.{Kind}
 use Rattle.format.specs.declared.Kind.the-variants.{LWO2}
-use Rattle.format.specs.declared.Fault.the-variants.{ItemCut, VertexCount}
-use Rattle.format.specs.Items.{_then_, fine, fault, Got, Reader, _>>=_, give, _or_unless_, times, u2}
+use Rattle.format.specs.declared.Fault.the-variants.{VertexCount}
+use Rattle.format.specs.Items.{_then_, fine, Got, Reader, _>>=_, give, _or_unless_, times, u2}
 use Rattle.format.specs.Mesh.{Polygon, polygonSize}
 use Rattle.format.specs.Bodies.{vertex, countBits, lwo2Vertices, polygon}
 use Rattle.format.specs.Said.{got, itself, taking, Says, ReadsAt, Sound, Put}
-use Rattle.format.proofs.Saying.{stopped, cut, on, given}
+use Rattle.format.proofs.Saying.{on, given}
 use Rattle.format.proofs.Entries.{times-length}
-use Rattle.format.proofs.Sounding.{sound-not, sound-first, sound-good, then-at}
+use Rattle.format.proofs.Sounding.{sound-first, sound-good, then-at}
 use Rattle.format.proofs.Puts.{put-none, put-snoc}
+use Rattle.wire.proofs.Wholes.{uint-there}
 use Rattle.bodies.specs.Answers.{index}
 use Rattle.fill.specs.Polygons.{VerticesRoom, VerticesPut, EntryRoom, EntryPut}
+use Rattle.fill.proofs.Tags.{sound-item}
 use Rattle.fill.proofs.Vertices.{above-length, vertices-counted}
 
 -- ---- the words of a polygon
@@ -45,8 +47,8 @@ module _ {A : Type 0} (count : ℕ → ℕ) (ok : ℕ → Bool) (kind : Kind) (k
   run : Sound (runOf count ok kind points at (drop at s))
   run = sound-first _ _ at (drop at s) (r .sound)
 
-  pub run-cut : {p : ℕ} → Says u2 itself s at (fault ItemCut p) → ⊥
-  run-cut w = sound-not (sound-first _ _ at (drop at s) run) (stopped {h = itself} (cut _ _ w))
+  pub run-there : at + 2 ≤ length s
+  run-there = uint-there s at 2 (omega arith) (sound-item u2 VertexCount ok at (drop at s) (sound-first _ _ at (drop at s) run))
 
   module _ {n next : ℕ} (w : ReadsAt u2 (taking 2) s at (got s n next)) where
     counted : Says (u2 or VertexCount unless ok) itself s at (got s n next)
@@ -80,9 +82,9 @@ module _ (kind : ℕ) where
   bare-keeps vs at t g e = let same : record { value = bare vs; next = at; left = t } ≡ g = cc in sym (ap (λ g. g .value .vertices) same)
 
   module _ {points base : ℕ} {s : List ℕ} {at : ℕ} {words : List ℕ} {i : ℕ} {vertices : List ℕ} {m : ℕ} (r : EntryRoom (polygon points kind) itself points base s at words i vertices m) where
-    pub never-cut : {p : ℕ} → Says u2 itself s at (fault ItemCut p) → ⊥
+    pub polygon-there : at + 2 ≤ length s
     unfolding polygon lwo2Vertices
-    never-cut w = run-cut countBits (λ n. leb 1 (countBits n)) LWO2 (λ vs. give (bare vs)) itself bare-keeps r w
+    polygon-there = run-there countBits (λ n. leb 1 (countBits n)) LWO2 (λ vs. give (bare vs)) itself bare-keeps r
 
     module _ {n next : ℕ} (w : ReadsAt u2 (taking 2) s at (got s n next)) where
       pub polygon-vertices : VerticesRoom LWO2 (countBits n) points base s next vertices m

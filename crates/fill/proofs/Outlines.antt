@@ -1,29 +1,42 @@
 -- One polygon of an LWOB file, put into the tables. Assumes nothing.
-use mathlib.Core.Path.{_≡_, sym, ap, _∙_}
-use mathlib.Core.Bool.{Bool}
+use mathlib.Core.Path.{_≡_, refl, sym, ap, _∙_}
+use mathlib.Core.Bool.{Bool, true, false}
 use mathlib.Core.List.{List, [], _∷_, map}
-use Prim.Native.Nat.{ℕ, _+_}
+use Prim.Native.Nat.{ℕ, suc, _+_, _-_, _≤_, _<_}
 use native.Mathlib.Omega.{arith}
-use lib.ListN.{length, drop}
+use lib.ListN.{length, take, drop}
 use lib.IntN.{ℤ}
+use borrow.Author.Tests.{lt-ltb, le-ltb}
 use Rattle.format.specs.declared.Kind.the-variants.{LWOB}
 use Rattle.format.specs.declared.Fault.{Fault}
-use Rattle.format.specs.declared.Fault.the-variants.{ItemCut}
-use Rattle.format.specs.Bytes.{between, absolute}
+use Rattle.format.specs.declared.Fault.the-variants.{SurfaceNumber}
+use Rattle.format.specs.Bytes.{between, absolute, signed, number}
 use Rattle.format.specs.Limits.{lwobVertexLimit}
 use Rattle.format.specs.Items.{Verdict, fine, fault, Got, _then_, Reader, _>>=_, give, _or_unless_, u2, i2}
 use Rattle.format.specs.Mesh.{Polygon, FACE, PATCH}
 use Rattle.format.specs.Bodies.{lwobVertices, detailsAfter, face, patch}
-use Rattle.format.specs.Said.{got, itself, taking, Says, Keeps, ReadsAt, Put}
-use Rattle.format.proofs.Saying.{met, exact, exactly, stopped, on, on-some, given}
-use Rattle.format.proofs.Sounding.{sound-not, sound-first, sound-next}
+use Rattle.format.specs.Said.{got, itself, taking, Says, Keeps, ReadsAt, Sound, Put}
+use Rattle.format.proofs.Saying.{Met, met, exact, exactly, stopped, on, on-some, given, part}
+use Rattle.format.proofs.Places.{uint-whole, i2-whole}
+use Rattle.format.proofs.Sounding.{sound-not, sound-first, sound-next, sound-good}
+use Rattle.wire.specs.declared.cursor.Cursor.{Cursor}
 use Rattle.wire.specs.declared.cursor.Sign.{Sign}
 use Rattle.wire.specs.Answers.{signOf}
-use Rattle.bodies.specs.Answers.{faceSizes, entryBytes}
-use Rattle.fill.specs.Polygons.{VerticesRoom, VerticesPut, EntryRoom, EntryPut, outline}
+use Rattle.wire.proofs.Wholes.{uint-there}
+use Rattle.bodies.specs.Answers.{DetailsAt}
+use Rattle.fill.specs.declared.outline.Outlined.{Outlined}
+use Rattle.fill.specs.Polygons.{VerticesRoom, VerticesPut, EntryRoom, EntryPut, outline, OutlinePut}
 use Rattle.fill.proofs.Vertices.{above-length, vertices-counted}
 use Rattle.format.proofs.Verdicts.{same-fine, then-fine, chosen}
-use Rattle.fill.proofs.OnePolygon.{after-first, run-cut, run-room, run-says}
+use Rattle.fill.proofs.OnePolygon.{after-first, run-there, run-room, run-says}
+
+-- ---- a surface number, from its sixteen bits
+
+pub plus : (n : ℕ) → n < 32768 → _≡_ {A = Sign} (record { number = n; negative = false }) (signOf (signed n))
+plus n h = rw (lt-ltb n 32768 h)
+
+pub minus : (n : ℕ) → 32768 ≤ n → n < 65536 → _≡_ {A = Sign} (record { number = 65536 - n; negative = true }) (signOf (signed n))
+minus n h below = let e : 65536 - n ≡ suc (65535 - n) = omega arith in rw (le-ltb n 32768 h, e)
 
 -- ---- what each starts with
 
@@ -43,9 +56,9 @@ module _ (kind : ℕ) where
       by (fault why p) q = absurd (let z : _≡_ {A = ℕ} 0 1 = cc in omega arith)
 
   module _ {points base : ℕ} {s : List ℕ} {at : ℕ} {words : List ℕ} {i : ℕ} {vertices : List ℕ} {m : ℕ} (r : EntryRoom (outline points kind) itself points base s at words i vertices m) where
-    pub outline-cut : {p : ℕ} → Says u2 itself s at (fault ItemCut p) → ⊥
+    pub outline-there : at + 2 ≤ length s
     unfolding outline lwobVertices
-    outline-cut w = run-cut itself (between 1 lwobVertexLimit) LWOB rest itself rest-keeps r w
+    outline-there = run-there itself (between 1 lwobVertexLimit) LWOB rest itself rest-keeps r
 
     module _ {n next : ℕ} (w : ReadsAt u2 (taking 2) s at (got s n next)) where
       pub outline-vertices : VerticesRoom LWOB n points base s next vertices m
@@ -57,12 +70,17 @@ module _ (kind : ℕ) where
         unfolding outline lwobVertices
         run = run-says itself (between 1 lwobVertexLimit) LWOB rest itself rest-keeps r w (q .reads .says)
 
-        pub sign-cut : {p : ℕ} → Says i2 signOf s end (fault ItemCut p) → ⊥
-        unfolding outline
-        sign-cut v = sound-not (sound-first _ _ end (drop end s) (sound-next _ _ run (r .sound))) (stopped v)
+        pub surface-there : end + 2 ≤ length s
+        unfolding outline i2
+        surface-there = uint-there s end 2 (omega arith) (sound-first _ _ end (drop end s) (sound-first _ _ end (drop end s) (sound-next _ _ run (r .sound))))
 
-        pub outline-put : {x : Sign} {last : ℕ} {words′ : List ℕ} → Keeps i2 signOf (taking 2) s end (got s x last) → Put words i (kind ∷ n ∷ x .number ∷ []) words′
-            → EntryPut (outline points kind) itself base s at words i words′ vertices m vertices′ last n
+        pub surface-read : {x : Sign} → x ≡ signOf (signed (number (take 2 (drop end s)))) → Keeps i2 signOf (taking 2) s end (got s x (end + 2))
+        surface-read is =
+            let z = i2-whole (uint-whole 2 surface-there refl) refl in
+            record { says = part (z .says) (λ y e. ap signOf e ∙ sym is); moves = z .moves }
+
+        pub outline-put : {x : Sign} {last : Cursor} {words′ : List ℕ} → Keeps i2 signOf (taking 2) s end (got s x (last .at)) → Put words i (kind ∷ n ∷ x .number ∷ []) words′
+            → OutlinePut points kind base s at words i words′ vertices m vertices′ (record { next = last; vertices = n; sign = x })
         unfolding outline
         outline-put {x} {last} v p =
             let many = vertices-counted q in
@@ -70,11 +88,17 @@ module _ (kind : ℕ) where
             let made : Polygon = record { kind = kind; surface = x .number; vertices = q .vertices } in
             let is : (z : ℤ) → signOf z ≡ x → surfaced (q .vertices) z ≡ made = λ z e. ap (λ y. record { kind = kind; surface = y .number; vertices = q .vertices }) e in
             record {
-              entry = made;
-              reads = record { says = on _ run (on-some _ (v .says) (λ z e. given (is z e))); moves = omega (arith, w .moves, q .reads .moves, v .moves) };
-              count = sym many;
-              put-words = rw placed p;
-              put-vertices = q .put;
+              put = record {
+                entry = made;
+                reads = record { says = on _ run (on-some _ (v .says) (λ z e. given (is z e))); moves = omega (arith, w .moves, q .reads .moves, v .moves) };
+                count = sym many;
+                put-words = rw placed p;
+                put-vertices = q .put;
+              };
+              end = end;
+              run = run;
+              sign = v;
+              made = refl;
             }
 
 -- ---- patches and faces, whose surface number is judged
@@ -132,20 +156,35 @@ module _ (names : ℕ) {points base : ℕ} {s : List ℕ} {at : ℕ} {words : Li
         let o = face-outline points names at (drop at s) (r .sound .value) (r .sound .is) in
         record { sound = record { value = o .0; is = o .1 }; words-fit = r .words-fit; vertices-fit = rw (o .2) (r .vertices-fit); small = r .small }
 
-    pub face-stops : {why : Fault} {p : ℕ} → Says (face points names) faceSizes s at (fault why p) → ⊥
-    face-stops w = sound-not (r .sound) (stopped w)
+    module _ {words′ vertices′ : List ℕ} {answer : Outlined} (q : OutlinePut points FACE base s at words i words′ vertices m vertices′ answer) where
+      abbrev rule : ℤ → Bool
+      rule z = between 1 names (absolute z)
 
-    pub face-put : {words′ vertices′ : List ℕ} {end many : ℕ} {z : ℕ × ℕ} {next : ℕ} → EntryPut (outline points FACE) itself base s at words i words′ vertices m vertices′ end many
-        → Keeps (face points names) faceSizes entryBytes s at (got s z next) → EntryPut (face points names) (λ f. f .0) base s at words i words′ vertices m vertices′ next many
-    face-put {end = end} q w =
-        let f = met (w .says) in
-        let o = face-outline points names at (drop at s) _ (f .is) in
-        let one : _≡_ {A = Got Polygon} (o .0) (record { value = q .entry; next = end; left = drop end s }) = same-fine (sym (o .1) ∙ exactly (q .reads .says)) in
-        let same : q .entry ≡ f .value .0 = sym (ap (λ g. g .value) one) ∙ o .2 in
-        record {
-          entry = f .value;
-          reads = record { says = exact (sym (f .is)); moves = omega (arith, w .moves) };
-          count = q .count ∙ ap (λ p. length (p .vertices)) same;
-          put-words = rw (← same) (q .put-words);
-          put-vertices = rw (← same) (q .put-vertices);
-        }
+      -- the surface number that was read, and that it was judged to be good
+      number-read : Met signOf (i2 (q .end) (drop (q .end) s)) s (answer .sign) (answer .next .at)
+      number-read = met (q .sign .says)
+
+      number-good : Says (i2 or SurfaceNumber unless rule) itself s (q .end) (got s (number-read .value) (answer .next .at))
+      unfolding face
+      number-good = sound-good SurfaceNumber rule (exact (sym (number-read .is))) (sound-first _ _ (q .end) (drop (q .end) s) (sound-next _ _ (q .run) (r .sound)))
+
+      details-sound : Sound (detailsAfter points names (number-read .value) (answer .next .at) (drop (answer .next .at) s))
+      unfolding face
+      details-sound = sound-first _ _ _ _ (sound-next _ _ number-good (sound-next _ _ (q .run) (r .sound)))
+
+      pub details-stop : {why : Fault} {p : ℕ} → DetailsAt points names (answer .sign) s (answer .next .at) (fault why p) → ⊥
+      details-stop d = sound-not details-sound (stopped (d .says (number-read .value) (number-read .shows)))
+
+      pub face-put : {n next : ℕ} → DetailsAt points names (answer .sign) s (answer .next .at) (got s n next)
+          → EntryPut (face points names) (λ f. f .0) base s at words i words′ vertices m vertices′ next (answer .vertices)
+      unfolding face
+      face-put {n} d =
+          let z = number-read .value in
+          let made : _≡_ {A = Polygon} (surfaced FACE (q .put .entry .vertices) z) (q .put .entry) = ap (λ y. record { kind = FACE; surface = y .number; vertices = q .put .entry .vertices }) (number-read .shows) ∙ sym (q .made) in
+          record {
+            entry = (q .put .entry, n);
+            reads = record { says = on _ (q .run) (on _ number-good (on _ (d .says z (number-read .shows)) (given (ap (λ p. (p, n)) made)))); moves = omega (arith, q .put .reads .moves, d .moves) };
+            count = q .put .count;
+            put-words = q .put .put-words;
+            put-vertices = q .put .put-vertices;
+          }

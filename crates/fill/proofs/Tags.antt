@@ -7,20 +7,21 @@ use native.Mathlib.Omega.{arith}
 use lib.ListN.{length, take, drop, set, length-append, length-take, length-set}
 use lib.Seq.{set-append-left}
 use lib.Dec.{ltb}
-use borrow.Author.Tests.{ltb-true, ltb-false}
+use borrow.Author.Tests.{ltb-true}
 use Rattle.format.specs.declared.Fault.{Fault}
 use Rattle.format.specs.declared.Fault.the-variants.{ItemCut, PolygonNumber, SurfaceNumber}
 use Rattle.format.specs.Bytes.{_is_, joined, number}
-use Rattle.format.specs.Items.{fine, fault, _then_, Reader, _>>=_, _or_unless_, whole, uint, u2, u4, vx}
+use Rattle.format.specs.Items.{fine, fault, _then_, Reader, _>>=_, _or_unless_, whole, u2, u4, vx}
 use Rattle.format.specs.Chunks.{unjudged}
 use Rattle.format.specs.Mesh.{Polygon}
 use Rattle.format.specs.Bodies.{Part, tagging, pair, taggingBody}
 use Rattle.format.specs.Rules.{retag, tagged}
 use Rattle.format.specs.Said.{Put, Says, ReadsAt, JudgedAt, Sound, keep, itself, taking, got}
 use Rattle.format.proofs.Saying.{on, given, exact, exactly, was-good, used-up}
-use Rattle.format.proofs.Places.{uint-cut, uint-whole}
+use Rattle.format.proofs.Places.{uint-whole}
 use Rattle.format.proofs.Entries.{Manying, many-begin, many-turn, many-end}
 use Rattle.format.proofs.Sounding.{sound-then, sound-not, sound-first, sound-next, sound-good, sound-whole, many-sound}
+use Rattle.wire.proofs.Wholes.{uint-there}
 use Rattle.bodies.specs.Answers.{pairsOf}
 use Rattle.fill.specs.Taggings.{wordsOf, TagsRoom, TagsPut}
 
@@ -74,16 +75,9 @@ put-tag qs ts p n w h room =
 
 -- ---- what is fine
 
-sound-item : {A : Type 0} (r : Reader A) (why : Fault) (ok : A → Bool) (at : ℕ) (t : List ℕ) → Sound ((r or why unless ok) at t) → Sound (r at t)
+pub sound-item : {A : Type 0} (r : Reader A) (why : Fault) (ok : A → Bool) (at : ℕ) (t : List ℕ) → Sound ((r or why unless ok) at t) → Sound (r at t)
 unfolding _or_unless_
 sound-item r why ok at t w = sound-then (r at t) _ w .0
-
-sound-inside : (n : ℕ) (s : List ℕ) (at : ℕ) → 0 < n → Sound (uint n at (drop at s)) → at + n ≤ length s
-sound-inside n s at some w = by (ltb (length s) (at + n)) refl
-  where
-    by : (t : Bool) → ltb (length s) (at + n) ≡ t → at + n ≤ length s
-    by true e = let h : length s < at + n = ltb-true (length s) (at + n) e in absurd (sound-not w (exactly (uint-cut n (omega arith) .says)))
-    by false e = ltb-false (length s) (at + n) e
 
 -- a body is judged to hold one thing only
 held : {header at : ℕ} {r : Reader Part} {s : List ℕ} {ts us : List (ℕ × ℕ)} → JudgedAt header at r itself s (fine (tagging ts)) → whole header r at (drop at s) ≡ fine (tagging us) → ts ≡ us
@@ -117,8 +111,8 @@ module _ {s : List ℕ} {from polygons names : ℕ} {table₀ : List ℕ} {i at 
     unfolding pair
     polygon-sound = sound-first _ _ at (drop at s) pair-sound
 
-    pub never-cut : ReadsAt vx (taking 2) s at (fault ItemCut at) → ⊥
-    never-cut w = sound-not (sound-item vx PolygonNumber (λ p. ltb p polygons) at (drop at s) polygon-sound) (exactly (w .says))
+    pub polygon-known : Sound (vx at (drop at s))
+    polygon-known = sound-item vx PolygonNumber (λ p. ltb p polygons) at (drop at s) polygon-sound
 
     module _ {p next : ℕ} (w : ReadsAt vx (taking 2) s at (got s p next)) where
       polygon-says : Says (vx or PolygonNumber unless (λ p. ltb p polygons)) itself s at (got s p next)
@@ -136,7 +130,7 @@ module _ {s : List ℕ} {from polygons names : ℕ} {table₀ : List ℕ} {i at 
       tag-sound = sound-first _ _ next (drop next s) (sound-next _ _ polygon-says pair-sound)
 
       pub tag-inside : next + 2 ≤ length s
-      tag-inside = sound-inside 2 s next (omega arith) (sound-item u2 SurfaceNumber (λ t. ltb t names) next (drop next s) tag-sound)
+      tag-inside = uint-there s next 2 (omega arith) (sound-item u2 SurfaceNumber (λ t. ltb t names) next (drop next s) tag-sound)
 
       module _ {t : ℕ} (read : t ≡ number (take 2 (drop next s))) where
         pair-says : Says (pair polygons names) itself s at (got s (p, suc t) (next + 2))

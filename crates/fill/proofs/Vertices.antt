@@ -3,19 +3,24 @@ use mathlib.Core.Path.{_≡_, refl, sym, ap, _∙_}
 use mathlib.Core.List.{List, [], _∷_, _++_, map-append, append-assoc, append-nil}
 use Prim.Native.Nat.{ℕ, _+_, _-_, _*_, _^_, _≤_, _<_}
 use native.Mathlib.Omega.{arith}
+use lib.Dec.{ltb}
 use lib.ListN.{length, drop, set, length-append, length-map, length-set}
 use borrow.Author.Tests.{ltb-true}
 use Rattle.format.specs.declared.Kind.{Kind}
 use Rattle.format.specs.declared.Fault.{Fault}
-use Rattle.format.specs.Items.{fault, times}
+use Rattle.format.specs.declared.Fault.the-variants.{VertexNumber}
+use Rattle.format.specs.Items.{Verdict, fine, fault, Got, times}
 use Rattle.format.specs.Bodies.{vertex}
-use Rattle.format.specs.Said.{got, itself, keep, taking, Says, ReadsAt, Put}
-use Rattle.format.proofs.Saying.{exactly, stopped, was-good}
+use Rattle.format.specs.Said.{got, itself, keep, taking, Says, ReadsAt, Sound, Put}
+use Rattle.format.proofs.Saying.{exact, exactly, stopped, was-good}
 use Rattle.format.proofs.Entries.{Timing, times-begin, times-turn, times-stop, times-end, times-length}
-use Rattle.format.proofs.Sounding.{sound-not}
+use Rattle.format.proofs.Sounding.{sound-not, sound-good}
 use Rattle.format.proofs.Puts.{put-none, put-snoc}
+use Rattle.wire.specs.declared.whole.Whole.{Whole}
+use Rattle.wire.specs.Whole.{WholeAt}
 use Rattle.bodies.specs.Answers.{index}
 use Rattle.fill.specs.Polygons.{above, VerticesRoom, VerticesPut}
+use Rattle.fill.proofs.Tags.{sound-item}
 
 pub above-length : (base : ℕ) (vs : List ℕ) → length (above base vs) ≡ length vs
 above-length base vs = length-map vs (λ v. base + v)
@@ -64,20 +69,34 @@ module _ {kind : Kind} {n points base : ℕ} {s : List ℕ} {from : ℕ} {table�
       left : 0 < n - i
       left = omega arith
 
-      pub never-stopped : {why : Fault} {p : ℕ} → Says (vertex (index kind) points) itself s at (fault why p) → ⊥
+      never-stopped : {why : Fault} {p : ℕ} → Says (vertex (index kind) points) itself s at (fault why p) → ⊥
       never-stopped w = sound-not (f .room .sound) (stopped {r = times n (vertex (index kind) points)} {h = itself} (record { is = times-stop (f .rest) left w }))
+
+      vertex-sound : Sound (vertex (index kind) points at (drop at s))
+      vertex-sound = by (vertex (index kind) points at (drop at s)) refl
+        where
+          by : (v : Verdict (Got ℕ)) → vertex (index kind) points at (drop at s) ≡ v → Sound (vertex (index kind) points at (drop at s))
+          by (fine g) e = record { value = g; is = e }
+          by (fault why p) e = absurd (never-stopped (exact (sym e)))
+
+      pub index-known : Sound (index kind at (drop at s))
+      index-known = sound-item (index kind) VertexNumber (λ v. ltb v points) at (drop at s) vertex-sound
 
       pub place-fits : m + i < length table
       place-fits = omega (arith, f .kept, f .room .room)
 
-      module _ {v next : ℕ} (w : ReadsAt (vertex (index kind) points) (taking 2) s at (got s v next)) where
-        pub vertex-fits : base + v < 2 ^ 32
-        vertex-fits = omega (arith, ltb-true v points (was-good _ _ _ (w .says)), f .room .small)
+      module _ {x : Whole} (r : WholeAt (index kind) s at x) where
+        w : ReadsAt (vertex (index kind) points) (taking 2) s at (got s (x .number) (x .next))
+        w = record { says = sound-good VertexNumber (λ v. ltb v points) (r .reads .says) vertex-sound; moves = r .reads .moves }
 
-        pub vertices-turn : VerticesFilling kind n points base s from table₀ m (set table (m + i) (base + v)) next (i + 1)
+        pub vertex-fits : base + x .number < 2 ^ 32
+        vertex-fits = omega (arith, ltb-true (x .number) points (was-good _ _ _ (w .says)), f .room .small)
+
+        pub vertices-turn : VerticesFilling kind n points base s from table₀ m (set table (m + i) (base + x .number)) (x .next) (i + 1)
         vertices-turn =
             let one : n - i - 1 ≡ n - (i + 1) = omega arith in
-            let same : (x : ℕ) (xs : List ℕ) → x ≡ v → f .done ++ (x ∷ xs) ≡ f .done ++ (v ∷ []) ++ xs = λ x xs e. rw e (sym (append-assoc (f .done) (v ∷ []) xs)) in
+            let v = x .number in
+            let same : (y : ℕ) (ys : List ℕ) → y ≡ v → f .done ++ (y ∷ ys) ≡ f .done ++ (v ∷ []) ++ ys = λ y ys e. rw e (sym (append-assoc (f .done) (v ∷ []) ys)) in
             let place : m + length (above base (f .done)) ≡ m + i = ap (λ k. m + k) (above-length base (f .done) ∙ f .count) in
             record {
               room = f .room;

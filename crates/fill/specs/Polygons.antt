@@ -9,10 +9,12 @@ use Rattle.format.specs.Items.{fine, Reader, _>>=_, give, times, i2, whole}
 use Rattle.format.specs.Mesh.{Polygon, polygonWords, polygonSize}
 use Rattle.format.specs.Bodies.{Part, polygons, vertex, lwobVertices}
 use Rattle.format.specs.Rules.{from}
-use Rattle.format.specs.Said.{got, itself, taking, ReadsAt, Sound, Put}
+use Rattle.format.specs.Said.{got, itself, taking, Says, Keeps, ReadsAt, Sound, Put}
+use Rattle.wire.specs.Answers.{signOf}
 use Rattle.bodies.specs.declared.entries.Layout.{Layout}
 use Rattle.bodies.specs.Answers.{index, EntryOf}
 use Rattle.fill.specs.declared.entries.Ends.{Ends}
+use Rattle.fill.specs.declared.outline.Outlined.{Outlined}
 
 -- ---- vertices
 
@@ -55,6 +57,14 @@ outline pointCount kind = do
   vs ← lwobVertices pointCount
   z ← i2
   give (record { kind = kind; surface = absolute z; vertices = vs })
+
+-- It is put, with its vertices up to the place `end`, and its surface number after them.
+pub record OutlinePut (points kind base : ℕ) (s : List ℕ) (at : ℕ) (words : List ℕ) (i : ℕ) (words′ vertices : List ℕ) (m : ℕ) (vertices′ : List ℕ) (answer : Outlined) : Type 0 where
+  pub put : EntryPut (outline points kind) itself base s at words i words′ vertices m vertices′ (answer .next .at) (answer .vertices)
+  pub end : ℕ
+  pub run : Says (lwobVertices points) itself s at (got s (put .entry .vertices) end)
+  pub sign : Keeps i2 signOf (taking 2) s end (got s (answer .sign) (answer .next .at))
+  pub made : put .entry ≡ record { kind = kind; surface = answer .sign .number; vertices = put .entry .vertices }
 
 -- the polygon that an entry of a layout holds: a face stands beside the number of its details
 abbrev pub heldBy : (l : Layout) → EntryOf l → Polygon

@@ -1,19 +1,50 @@
 // The polygons of an LWOB file into the tables of polygons and of vertices.
+ghost use mathlib.Core.Path.{_≡_};
+ghost use Prim.Native.Nat.{_+_, _≤_};
+ghost use lib.ListN.{length, take, drop};
+ghost use Rattle.format.specs.Bytes.{number, signed};
 ghost use Rattle.format.specs.Bodies.{face, patch, facesBody, patchesBody};
 ghost use Rattle.format.specs.Said.{itself};
-ghost use Rattle.fill.specs.Polygons.{EntryRoom, EntryPut, outline, PolygonsRoom, PolygonsPut};
+ghost use Rattle.wire.specs.Answers.{signOf};
+ghost use Rattle.fill.specs.Polygons.{EntryRoom, EntryPut, outline, OutlinePut, PolygonsRoom, PolygonsPut};
 use crate::entries::Ends;
 use crate::entries::put_entries;
 use crate::polygons::Moved;
 use crate::polygons::put_vertices;
 use crate::polygons::put_words;
-use bodies::entries::Entry;
 use bodies::entries::Layout;
-use bodies::faces::face;
+use bodies::faces::details_after;
 use format::Kind;
+use wire::Run;
 use wire::cursor::Cursor;
-use wire::cursor::Number;
-use wire::cursor::Signs;
+use wire::cursor::Sign;
+use wire::cursor::pair;
+
+// What was put: the cursor after the surface number, how many vertices there are, and that number.
+pub struct Outlined {
+    pub next: Cursor,
+    pub vertices: usize,
+    pub sign: Sign,
+}
+
+// The surface number at a place. It was judged not to be cut.
+fn surface_at(s: &[u8], at: usize) -> Sign
+    requires { ⌜ at + 2 ≤ length (now s) ⌝ }
+    ensures { λ r. ⌜ r ≡ signOf (signed (number (take 2 (drop at (now (s .entry)))))) ⌝ }
+{
+    let n = pair(s, at) as u32;
+    if n < 32768 {
+        Sign {
+            number: n,
+            negative: false,
+        }
+    } else {
+        Sign {
+            number: 65536 - n,
+            negative: true,
+        }
+    }
+}
 
 // What every polygon of an LWOB file starts with. A negative surface number tells of details, and the surface is its absolute value.
 fn put_outline(
@@ -26,25 +57,21 @@ fn put_outline(
     i: usize,
     vertices: &mut [u32],
     m: usize,
-) -> Moved
+) -> Outlined
     requires { ⌜ EntryRoom (outline points kind) itself points base (now s) (c .at) (now polygons) i (now vertices) m ⌝ }
-    ensures { λ r. ⌜ EntryPut (outline points kind) itself base (now (s .entry)) (c .at) (now (polygons .entry)) i (now (polygons .exit)) (now (vertices .entry)) m (now (vertices .exit)) (r .next .at) (r .vertices) ⌝ }
+    ensures { λ r. ⌜ OutlinePut points kind base (now (s .entry)) (c .at) (now (polygons .entry)) i (now (polygons .exit)) (now (vertices .entry)) m (now (vertices .exit)) r ⌝ }
 {
-    let none = Moved {
-        next: c,
-        vertices: 0,
-    };
-    let Number::Got(n, first) = c.u2(s) else {
-        return none;
-    };
+    let at = c.at;
+    let n = pair(s, at) as u32;
+    let first = Cursor { at: at + 2 };
     let after = put_vertices(s, first, n as usize, Kind::LWOB, points, base, vertices, m);
-    let Signs::Got(sign, next) = after.sign(s) else {
-        return none;
-    };
+    let end = after.at;
+    let sign = surface_at(s, end);
     put_words(polygons, i, kind, n, sign.number);
-    Moved {
-        next,
+    Outlined {
+        next: Cursor { at: end + 2 },
         vertices: n as usize,
+        sign,
     }
 }
 
@@ -63,10 +90,15 @@ pub fn put_patch(
     requires { ⌜ EntryRoom (patch points names) itself points base (now s) (c .at) (now polygons) i (now vertices) m ⌝ }
     ensures { λ r. ⌜ EntryPut (patch points names) itself base (now (s .entry)) (c .at) (now (polygons .entry)) i (now (polygons .exit)) (now (vertices .entry)) m (now (vertices .exit)) (r .next .at) (r .vertices) ⌝ }
 {
-    put_outline(s, c, 2, points, base, polygons, i, vertices, m)
+    let put = put_outline(s, c, 2, points, base, polygons, i, vertices, m);
+    let next = put.next;
+    Moved {
+        next,
+        vertices: put.vertices,
+    }
 }
 
-// A face. Its details are not kept: it is read once more, as it was judged, for the cursor after them.
+// A face. Its details are not kept: they are read once more, as they were judged, for the cursor after them.
 pub fn put_face(
     s: &[u8],
     c: Cursor,
@@ -82,15 +114,17 @@ pub fn put_face(
     ensures { λ r. ⌜ EntryPut (face points names) (λ f. f .0) base (now (s .entry)) (c .at) (now (polygons .entry)) i (now (polygons .exit)) (now (vertices .entry)) m (now (vertices .exit)) (r .next .at) (r .vertices) ⌝ }
 {
     let put = put_outline(s, c, 1, points, base, polygons, i, vertices, m);
-    match face(s, c, points, names) {
-        Entry::Stop(_) => put,
-        Entry::Got {
-            vertices: _,
-            details: _,
+    let after = put.next;
+    let sign = put.sign;
+    let many = put.vertices;
+    match details_after(s, after, sign, points, names) {
+        Run::Stop(_) => Moved {
+            next: after,
+            vertices: many,
+        },
+        Run::Got(_, next) => Moved {
             next,
-        } => Moved {
-            next,
-            vertices: put.vertices,
+            vertices: many,
         },
     }
 }

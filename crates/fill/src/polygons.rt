@@ -10,11 +10,11 @@ use crate::entries::Ends;
 use crate::entries::put_entries;
 use bodies::entries::Layout;
 use bodies::polygons::polygon_kind;
-use bodies::vertices::vertex;
+use bodies::vertices::index_at;
 use format::Kind;
 use wire::cursor::Cursor;
-use wire::cursor::Item;
 use wire::cursor::Number;
+use wire::cursor::pair;
 
 // A polygon that was put: the cursor after it, and how many vertices it has.
 pub struct Moved {
@@ -22,7 +22,8 @@ pub struct Moved {
     pub vertices: usize,
 }
 
-// The n vertices at a cursor into the table from the index m on, each counted from the file's first point. The answer is the cursor after them.
+// The n vertices at a cursor into the table from the index m on, each counted from the file's first point. They were judged to be fine, so that none is judged
+// here. The answer is the cursor after them.
 pub fn put_vertices(
     s: &[u8],
     from: Cursor,
@@ -36,17 +37,16 @@ pub fn put_vertices(
     requires { ⌜ VerticesRoom kind n points base (now s) (from .at) (now table) m ⌝ }
     ensures { λ r. ⌜ VerticesPut kind n points base (now (s .entry)) (from .at) (now (table .entry)) m (now (table .exit)) (r .at) ⌝ }
 {
-    let mut c = from;
+    let mut at = from.at;
     let mut i = 0;
     while i < n {
-        let Item::Got(v, next) = vertex(s, c, kind, points) else {
-            return c;
-        };
+        let index = index_at(s, at, kind);
+        let v = index.number;
         table[m + i] = base + v;
-        c = next;
+        at = index.next;
         i += 1;
     }
-    c
+    Cursor { at }
 }
 
 // The three words of a polygon into the table from the index i on.
@@ -74,17 +74,13 @@ pub fn put_polygon(
     requires { ⌜ EntryRoom (polygon points kind) itself points base (now s) (c .at) (now polygons) i (now vertices) m ⌝ }
     ensures { λ r. ⌜ EntryPut (polygon points kind) itself base (now (s .entry)) (c .at) (now (polygons .entry)) i (now (polygons .exit)) (now (vertices .entry)) m (now (vertices .exit)) (r .next .at) (r .vertices) ⌝ }
 {
-    let Number::Got(n, first) = c.u2(s) else {
-        return Moved {
-            next: c,
-            vertices: 0,
-        };
-    };
+    let at = c.at;
+    let n = pair(s, at) as u32;
     let count = n % 1024;
     put_words(polygons, i, kind, count, 0);
     let next = put_vertices(
         s,
-        first,
+        Cursor { at: at + 2 },
         count as usize,
         Kind::LWO2,
         points,

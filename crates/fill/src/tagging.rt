@@ -7,25 +7,25 @@ ghost use Rattle.fill.specs.Taggings.{TagsRoom, TagsPut};
 use wire::cursor::Cursor;
 use wire::cursor::Number;
 use wire::cursor::pair;
+use wire::whole::vx_at;
 
 const SURF: u32 = 0x5355_5246;
 
 // The pairs from a place up to the body's end. A polygon's surface number is the third of its three words, and counts the names from 1, where a tag counts
-// them from 0. A later tag of the same polygon is put over an earlier one, so that the last stands.
+// them from 0. A later tag of the same polygon is put over an earlier one, so that the last stands. The pairs were judged to be fine.
 fn put_pairs(s: &[u8], from: Cursor, polygons: usize, names: usize, table: &mut [u32], i: usize)
     requires { ⌜ TagsRoom (whole 0 (pairsOf polygons names) (from .at) (drop (from .at) (now s))) polygons (now table) i ⌝ }
     ensures { λ _. ⌜ TagsPut (whole 0 (pairsOf polygons names) (from .at) (drop (from .at) (now (s .entry)))) polygons (now (table .entry)) i (now (table .exit)) ⌝ }
 {
     let mut at = from.at;
     while at < s.len() {
-        let c = Cursor { at };
-        let Number::Got(p, after) = c.vx(s) else {
-            return;
-        };
+        let index = vx_at(s, at);
+        let p = index.number;
+        let after = index.next;
         // Two bytes, so that the number above it fits.
-        let tag = pair(s, after.at) as u32;
+        let tag = pair(s, after) as u32;
         table[i + (p as usize * 3 + 2)] = tag + 1;
-        at = after.at + 2;
+        at = after + 2;
     }
 }
 

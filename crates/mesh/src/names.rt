@@ -3,27 +3,11 @@ ghost use mathlib.Core.Path.{_≡_};
 ghost use mathlib.Core.List.{[]};
 ghost use Prim.Native.Nat.{_≤_};
 ghost use lib.ListN.{length};
-ghost use Rattle.format.specs.Bytes.{same, amongst, sum};
+ghost use Rattle.format.specs.Bytes.{amongst, sum};
 ghost use Rattle.format.specs.Written.{pieces, noZero, goodNames};
 ghost use Rattle.mesh.specs.Lent.{goodName};
 use crate::words::wide;
-
-// Lengths first, then bytes up to the first that differs.
-pub fn same_bytes(a: &[u8], b: &[u8]) -> bool
-    ensures { λ r. ⌜ r ≡ same (now (a .entry)) (now (b .entry)) ⌝ }
-{
-    if a.len() != b.len() {
-        return false;
-    }
-    let mut i = 0;
-    while i < a.len() {
-        if a[i] != b[i] {
-            return false;
-        }
-        i += 1;
-    }
-    true
-}
+use wire::bytes::same_bytes;
 
 fn no_zero(name: &[u8]) -> bool
     ensures { λ r. ⌜ r ≡ noZero (now (name .entry)) ⌝ }

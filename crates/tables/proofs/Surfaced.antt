@@ -30,8 +30,8 @@ use Rattle.tables.proofs.Making.{holds-surface, always}
 
 -- ---- the name that a SURF body starts with
 
-same-name : {n m : Name} {vs ws : List Value} → surface n vs ≡ surface m ws → n ≡ m
-same-name e = cc
+same-bytes : {n m : Name} {vs ws : List Value} → surface n vs ≡ surface m ws → n ≡ m
+same-bytes e = cc
 
 -- the first string of a body
 record Starts (body : List ℕ) (name : Name) : Type 0 where
@@ -54,7 +54,7 @@ starts kind body e =
     let y = same-fine (chosen (empty (x .0 .left)) (fine (x .0 .value)) WrongLength 0 (x .2) .1) in
     let n = then-fine (surfaceName kind 8 body) _ (x .1) in
     let v = then-fine (many (sub (valueOf kind)) (n .0 .next) (n .0 .left)) _ (n .2) in
-    let name-is = same-name (ap (λ g. g .value) (same-fine (v .2)) ∙ y) in
+    let name-is = same-bytes (ap (λ g. g .value) (same-fine (v .2)) ∙ y) in
     let s = starts-name kind body (n .0) (n .1) in
     record { got = s .got; reads = s .reads; value-is = s .value-is ∙ name-is }
 

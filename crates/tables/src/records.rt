@@ -1,6 +1,5 @@
 // The surface records of a file into their table, one for each listed name.
 ghost use mathlib.Core.Path.{_≡_};
-ghost use Rattle.format.specs.Bytes.{same};
 ghost use Rattle.format.specs.Written.{pieces};
 ghost use Rattle.surface.specs.Records.{Known, surfaceOf};
 ghost use Rattle.tables.specs.Fills.{RecordsRoom, RecordsPut};
@@ -10,29 +9,13 @@ use format::Kind;
 use surface::record::Record;
 use surface::record::record_of;
 use surface::record::store;
+use wire::bytes::same_bytes;
 use wire::cursor::Cursor;
 use wire::cursor::Text;
 use wire::header::Header;
 use wire::header::chunk_at;
 
 const SURF: u32 = 0x5355_5246;
-
-// Lengths first, then bytes up to the first that differs.
-fn same_name(a: &[u8], b: &[u8]) -> bool
-    ensures { λ r. ⌜ r ≡ same (now (a .entry)) (now (b .entry)) ⌝ }
-{
-    if a.len() != b.len() {
-        return false;
-    }
-    let mut i = 0;
-    while i < a.len() {
-        if a[i] != b[i] {
-            return false;
-        }
-        i += 1;
-    }
-    true
-}
 
 // Stores the record at each listed name that is equal to `name`. The lengths cut the listed names from the bytes.
 fn put_record(name: &[u8], r: Record, lengths: &[u32], bytes: &[u8], records: &mut [u32])
@@ -44,7 +27,7 @@ fn put_record(name: &[u8], r: Record, lengths: &[u32], bytes: &[u8], records: &m
     let mut at = 0;
     while i < lengths.len() {
         let end = at + lengths[i] as usize;
-        if same_name(&bytes[at..end], name) {
+        if same_bytes(&bytes[at..end], name) {
             store(records, i, r);
         }
         i += 1;

@@ -1,2 +1,3 @@
 mod Halves
 pub mod Headers
+pub mod Wholes

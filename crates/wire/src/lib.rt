@@ -2,8 +2,10 @@
 use crate::cursor::Cursor;
 use format::Fault;
 
+pub mod bytes;
 pub mod cursor;
 pub mod header;
+pub mod whole;
 
 // The first fault, and the place of the header, item or string at fault, counted from the chunk's tag.
 pub struct Refusal {

@@ -1,5 +1,5 @@
 use borrow.Author.Needs.{needs}
-use Rattle.fill.proofs.Outlines.{face-room, face-stops, face-put}
+use Rattle.fill.proofs.Outlines.{face-room, details-stop, face-put}
 use Rattle.fill.proofs.outline.put_face.Statement.{statement}
 use Rattle.fill.proofs.outline.put_face.Tie as tie
 
@@ -7,12 +7,14 @@ put-outline-requires : tie.Need-put-outline-requires
 put-outline-requires c κs = face-room _ (c .before .before .before .before .before .pre)
 
 returns : tie.Need-returns
-returns c = absurd (face-stops _ (c .before .before .before .before .before .before .before .before .before .before .before .before .before .pre) ((rw (c .enum-told .given .1) at (c .before .before .face .ensures)) .says))
+returns c =
+    let p = c .before .before .before .before .before .before .before .before .before in
+    absurd (details-stop _ (p .before .before .before .before .before .before .pre) (p .put-outline .ensures) (rw (c .enum-told .given .1) at (c .before .before .details-after .ensures)))
 
 returns-2 : tie.Need-returns-2
 returns-2 c =
-    let p = c .before .before .before .before .before .before .before .before in
-    face-put _ (p .before .before .before .before .before .before .pre) (p .put-outline .ensures) (rw (c .before .next .given .1) at (c .before .before .before .face .ensures))
+    let p = c .before .before .before .before .before .before .before .before .before .before in
+    face-put _ (p .before .before .before .before .before .before .pre) (p .put-outline .ensures) (rw (c .before .next .given .1) at (c .before .before .before .details-after .ensures))
 
 pub put-face-spec : {M : Type 1} → statement M
 put-face-spec =

@@ -1,49 +1,57 @@
 use borrow.Author.Needs.{needs}
-use Rattle.fill.proofs.Outlines.{outline-cut, outline-vertices, sign-cut, outline-put}
+use Rattle.format.proofs.Places.{uint-whole}
+use Rattle.fill.proofs.Outlines.{outline-there, outline-vertices, surface-there, surface-read, outline-put}
 use Rattle.fill.proofs.outline.put_outline.Statement.{statement}
 use Rattle.fill.proofs.outline.put_outline.Tie as tie
 
-returns : tie.Need-returns
-returns c = absurd (outline-cut _ (c .before .before .before .before .before .before .pre) ((rw (c .enum-told .given .1) at (c .before .before .u2 .ensures)) .says))
+pair-requires : tie.Need-pair-requires
+pair-requires c κs = outline-there _ (c .before .before .before .pre)
+
+add-put-vertices : tie.Need-add-put-vertices
+add-put-vertices c = let y = outline-there _ (c .before .before .before .before .pre) in search (needs, y)
 
 put-vertices-requires : tie.Need-put-vertices-requires
 put-vertices-requires c κs =
-    let x = c .before .before in
-    let u = x .before .before in
-    outline-vertices _ (u .before .before .before .before .pre) (rw (x .n .given .1) at (u .u2 .ensures))
+    let n = c .before in
+    let r = n .before .before .before .before .pre in
+    outline-vertices _ r (uint-whole 2 (outline-there _ r) (n .pair .ensures))
 
-returns-2 : tie.Need-returns-2
-returns-2 c =
-    let p = c .before .before .before .before .before in
-    let x = p .before .before .before in
-    let u = x .before .before in
-    absurd (sign-cut _ (u .before .before .before .before .pre) (rw (x .n .given .1) at (u .u2 .ensures)) (p .put-vertices .ensures) ((rw (c .enum-told2 .given .1) at (c .before .before .sign .ensures)) .says))
+surface-at-requires : tie.Need-surface-at-requires
+surface-at-requires c κs =
+    let p = c .before .before in
+    let n = p .before .before in
+    let r = n .before .before .before .before .pre in
+    surface-there _ r (uint-whole 2 (outline-there _ r) (n .pair .ensures)) (p .put-vertices .ensures)
 
-returns-3 : tie.Need-returns-3
-returns-3 c =
-    let y = c .before .before .before .before .before in
-    let p = y .before .before .before .before .before in
-    let x = p .before .before .before in
-    let u = x .before .before in
-    outline-put _ (u .before .before .before .before .pre) (rw (x .n .given .1) at (u .u2 .ensures)) (p .put-vertices .ensures) (rw (y .sign2 .given .1) at (y .before .before .sign .ensures)) (c .before .before .put-words .ensures)
+add-t17 : tie.Need-add-t17
+add-t17 c =
+    let p = c .before .before .before .before .before .before .before in
+    let n = p .before .before in
+    let r = n .before .before .before .before .pre in
+    let y = surface-there _ r (uint-whole 2 (outline-there _ r) (n .pair .ensures)) (p .put-vertices .ensures) in
+    search (needs, y)
+
+returns : tie.Need-returns
+returns c =
+    let p = c .before .before .before .before .before .before .before in
+    let n = p .before .before in
+    let r = n .before .before .before .before .pre in
+    let w = uint-whole 2 (outline-there _ r) (n .pair .ensures) in
+    outline-put _ r w (p .put-vertices .ensures) (surface-read _ r w (p .put-vertices .ensures) (c .before .before .before .before .surface-at .ensures)) (c .before .before .put-words .ensures)
 
 pub put-outline-spec : {M : Type 1} → statement M
 put-outline-spec =
     tie.close
     (tie.spec
-    (λ c κs. search needs)
+    pair-requires
     (λ c. search needs)
-    (λ c. search needs)
-    returns
+    add-put-vertices
     (λ c. search needs)
     put-vertices-requires
+    surface-at-requires
     (λ c κs. search needs)
+    add-t17
     (λ c. search needs)
     (λ c. search needs)
     (λ c. search needs)
-    returns-2
-    (λ c κs. search needs)
-    (λ c. search needs)
-    (λ c. search needs)
-    (λ c. search needs)
-    returns-3)
+    returns)

@@ -8,8 +8,8 @@ put-outline-requires c κs = patch-room _ (c .before .before .before .before .be
 
 returns : tie.Need-returns
 returns c =
-    let p = c .before .before .before .before in
-    patch-put _ (p .before .before .before .before .before .before .pre) (p .put-outline .ensures)
+    let p = c .before .before .before .before .before in
+    patch-put _ (p .before .before .before .before .before .before .pre) (p .put-outline .ensures .put)
 
 pub put-patch-spec : {M : Type 1} → statement M
 put-patch-spec = tie.close (tie.spec put-outline-requires (λ c. search needs) (λ c. search needs) returns)

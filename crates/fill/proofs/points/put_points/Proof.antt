@@ -1,29 +1,32 @@
 use Prim.Native.Nat.{_-_}
-use native.Mathlib.Omega.{arith}
-use lib.ListN.{length, length-set}
-use denote.Ref.{now}
-use Rattle.fill.proofs.Words.{PointsFilling, points-begin, points-turn, points-end}
+use Rattle.fill.proofs.Words.{PointsPutting, threes-begin, y-fits, z-fits, threes-turn, threes-end}
 use borrow.Author.Needs.{needs}
 use Rattle.fill.proofs.points.put_points.Statement.{statement}
 use Rattle.fill.proofs.points.put_points.Tie as tie
 
 abbrev Inv-loop : tie.InvT-loop
-Inv-loop s table₀ m n i₀ table i = PointsFilling s table₀ m n i table
+Inv-loop s table₀ m n i₀ table i = PointsPutting s table₀ m n i table
 
 abbrev μ-loop : tie.MeasureT-loop
 μ-loop s table₀ m n i₀ table i = n - i
 
 loop-holds : tie.Need-loop-holds Inv-loop μ-loop
-loop-holds c = points-begin _ _ _ _ (search needs) (c .before .before .before .pre)
+loop-holds c = threes-begin _ _ _ _ (search needs) (c .before .before .before .pre)
+
+slice-write-table-2 : tie.Need-slice-write-table-2 Inv-loop μ-loop
+slice-write-table-2 c = y-fits (c .before .before .before .loop .inv) _ (c .before .before .loop-test .taken)
+
+slice-write-table-3 : tie.Need-slice-write-table-3 Inv-loop μ-loop
+slice-write-table-3 c = z-fits (c .before .before .before .before .loop .inv) _ _ (c .before .before .before .loop-test .taken)
 
 loop-again : tie.Need-loop-again Inv-loop μ-loop
-loop-again c = points-turn (c .before .before .loop .inv) _ (c .before .loop-test .taken) (c .word .ensures)
+loop-again c = threes-turn (c .before .before .before .before .loop .inv) _ _ _ (c .before .before .before .loop-test .taken) (c .before .before .word .ensures) (c .before .word2 .ensures) (c .word3 .ensures)
 
 same-length : tie.Need-same-length Inv-loop μ-loop
-same-length c = c .before .loop .inv .kept
+same-length c = c .before .loop .inv .filling .kept
 
 returns : tie.Need-returns Inv-loop μ-loop
-returns c = points-end (c .before .loop .inv) (c .loop-test .left)
+returns c = threes-end (c .before .loop .inv) (c .loop-test .left)
 
 pub put-points-spec : {M : Type 1} → statement M
 put-points-spec =
@@ -35,10 +38,25 @@ put-points-spec =
     loop-holds
     (λ c. search needs)
     (λ c. search needs)
+    (λ c. search needs)
     (λ c κs. search needs)
     (λ c. search needs)
     (λ c. search needs)
     (λ c. search needs)
+    (λ c. search needs)
+    (λ c. search needs)
+    (λ c κs. search needs)
+    (λ c. search needs)
+    (λ c. search needs)
+    (λ c. search needs)
+    slice-write-table-2
+    (λ c. search needs)
+    (λ c. search needs)
+    (λ c κs. search needs)
+    (λ c. search needs)
+    (λ c. search needs)
+    (λ c. search needs)
+    slice-write-table-3
     (λ c. search needs)
     (λ c. search needs)
     loop-again

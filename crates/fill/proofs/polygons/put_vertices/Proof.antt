@@ -1,63 +1,45 @@
 use borrow.Author.Needs.{needs}
 use Prim.Native.Nat.{_-_}
-use Rattle.fill.proofs.Vertices.{VerticesFilling, vertices-begin, vertices-end, never-stopped, place-fits, vertex-fits, vertices-turn}
+use Rattle.fill.proofs.Vertices.{VerticesFilling, vertices-begin, vertices-end, index-known, place-fits, vertex-fits, vertices-turn}
 use Rattle.fill.proofs.polygons.put_vertices.Statement.{statement}
 use Rattle.fill.proofs.polygons.put_vertices.Tie as tie
 
 abbrev Inv-loop : tie.InvT-loop
-Inv-loop s n kind points base table₀ m c₀ i₀ table c i = VerticesFilling kind n points base s (c₀ .at) table₀ m table (c .at) i
+Inv-loop s n kind points base table₀ m at₀ i₀ table at i = VerticesFilling kind n points base s at₀ table₀ m table at i
 
 abbrev μ-loop : tie.MeasureT-loop
-μ-loop s n kind points base table₀ m c₀ i₀ table c i = n - i
+μ-loop s n kind points base table₀ m at₀ i₀ table at i = n - i
 
 loop-holds : tie.Need-loop-holds Inv-loop μ-loop
 loop-holds c = vertices-begin (c .before .before .pre)
 
-returns : tie.Need-returns Inv-loop μ-loop
-returns c =
-    let u = c .before .before in
-    absurd (never-stopped (u .before .before .loop .inv) (u .before .loop-test .taken) ((rw (c .enum-told .given .1) at (u .vertex .ensures)) .says))
+index-at-requires : tie.Need-index-at-requires Inv-loop μ-loop
+index-at-requires c κs = index-known (c .before .loop .inv) (c .loop-test .taken)
 
 add-table : tie.Need-add-table Inv-loop μ-loop
-add-table c =
-    let x = c .before in
-    let u = x .before .before in
-    let f = u .before .before .loop .inv in
-    record { fits = vertex-fits f (u .before .loop-test .taken) (rw (x .v .given .1) at (u .vertex .ensures)) }
+add-table c = record { fits = vertex-fits (c .before .before .loop .inv) (c .before .loop-test .taken) (c .index-at .ensures) }
 
 add-table-2 : tie.Need-add-table-2 Inv-loop μ-loop
 add-table-2 c =
-    let x = c .before in
-    let u = x .before .before in
-    let f = u .before .before .loop .inv in
-    let y = place-fits f (u .before .loop-test .taken) in
-    search (needs, y, u .before .before .before .before .before .good)
+    let y = place-fits (c .before .before .loop .inv) (c .before .loop-test .taken) in
+    search (needs, y, c .before .before .before .before .before .good)
 
 mul-table : tie.Need-mul-table Inv-loop μ-loop
 mul-table c =
-    let x = c .before in
-    let u = x .before .before in
-    let f = u .before .before .loop .inv in
-    let y = place-fits f (u .before .loop-test .taken) in
-    search (needs, y, u .before .before .before .before .before .good)
+    let y = place-fits (c .before .before .loop .inv) (c .before .loop-test .taken) in
+    search (needs, y, c .before .before .before .before .before .good)
 
 slice-write-table : tie.Need-slice-write-table Inv-loop μ-loop
-slice-write-table c =
-    let u = c .before .before .before in
-    place-fits (u .before .before .loop .inv) (u .before .loop-test .taken)
+slice-write-table c = place-fits (c .before .before .loop .inv) (c .before .loop-test .taken)
 
 loop-again : tie.Need-loop-again Inv-loop μ-loop
-loop-again c =
-    let x = c .before in
-    let u = x .before .before in
-    let f = u .before .before .loop .inv in
-    vertices-turn f (u .before .loop-test .taken) (rw (x .v .given .1) at (u .vertex .ensures))
+loop-again c = vertices-turn (c .before .before .loop .inv) (c .before .loop-test .taken) (c .index-at .ensures)
 
-same-length-2 : tie.Need-same-length-2 Inv-loop μ-loop
-same-length-2 c = c .before .loop .inv .kept
+same-length : tie.Need-same-length Inv-loop μ-loop
+same-length c = c .before .loop .inv .kept
 
-returns-2 : tie.Need-returns-2 Inv-loop μ-loop
-returns-2 c = vertices-end (c .before .loop .inv) (c .loop-test .left)
+returns : tie.Need-returns Inv-loop μ-loop
+returns c = vertices-end (c .before .loop .inv) (c .loop-test .left)
 
 pub put-vertices-spec : {M : Type 1} → statement M
 put-vertices-spec =
@@ -66,11 +48,7 @@ put-vertices-spec =
     Inv-loop
     μ-loop
     loop-holds
-    (λ c κs. search needs)
-    (λ c. search needs)
-    (λ c. search needs)
-    (λ c. search needs)
-    returns
+    index-at-requires
     add-table
     add-table-2
     mul-table
@@ -78,5 +56,5 @@ put-vertices-spec =
     (λ c. search needs)
     (λ c. search needs)
     loop-again
-    same-length-2
-    returns-2)
+    same-length
+    returns)

@@ -2,7 +2,7 @@ use borrow.Author.Needs.{needs}
 use Prim.Native.Nat.{_-_}
 use native.Mathlib.Omega.{arith}
 use lib.ListN.{length}
-use Rattle.fill.proofs.Tags.{Retagging, tags-begin, never-cut, tag-inside, stored, tags-turn, tags-end}
+use Rattle.fill.proofs.Tags.{Retagging, tags-begin, polygon-known, tag-inside, stored, tags-turn, tags-end}
 use Rattle.fill.proofs.tagging.put_pairs.Statement.{statement}
 use Rattle.fill.proofs.tagging.put_pairs.Tie as tie
 
@@ -15,46 +15,36 @@ abbrev μ-loop : tie.MeasureT-loop
 loop-holds : tie.Need-loop-holds Inv-loop μ-loop
 loop-holds c = tags-begin (c .before .before .pre)
 
-returns : tie.Need-returns Inv-loop μ-loop
-returns c =
-    let u = c .before .before in
-    absurd (never-cut (u .before .before .loop .inv) (u .before .loop-test .taken) (rw (c .enum-told .given .1) at (u .vx .ensures)))
+vx-at-requires : tie.Need-vx-at-requires Inv-loop μ-loop
+vx-at-requires c κs = polygon-known (c .before .loop .inv) (c .loop-test .taken)
 
 pair-requires : tie.Need-pair-requires Inv-loop μ-loop
-pair-requires c κs =
-    let x = c .before in
-    let u = x .before .before in
-    tag-inside (u .before .before .loop .inv) (u .before .loop-test .taken) (rw (x .p .given .1) at (u .vx .ensures))
+pair-requires c κs = tag-inside (c .before .before .loop .inv) (c .before .loop-test .taken) (c .vx-at .ensures .reads)
 
 slice-write-table : tie.Need-slice-write-table Inv-loop μ-loop
 slice-write-table c =
-    let x = c .before .before in
-    let u = x .before .before in
-    let y = stored (u .before .before .loop .inv) (u .before .loop-test .taken) (rw (x .p .given .1) at (u .vx .ensures)) in
+    let u = c .before in
+    let y = stored (u .before .before .loop .inv) (u .before .loop-test .taken) (u .vx-at .ensures .reads) in
     search (needs, y)
 
 add-at : tie.Need-add-at Inv-loop μ-loop
 add-at c =
-    let x = c .before .before .before in
-    let u = x .before .before in
-    let y = tag-inside (u .before .before .loop .inv) (u .before .loop-test .taken) (rw (x .p .given .1) at (u .vx .ensures)) in
+    let u = c .before in
+    let y = tag-inside (u .before .before .loop .inv) (u .before .loop-test .taken) (u .vx-at .ensures .reads) in
     search (needs, y)
 
 loop-less : tie.Need-loop-less Inv-loop μ-loop
 loop-less c =
-    let x = c .before .before .before in
-    let u = x .before .before in
-    let w = rw (x .p .given .1) at (u .vx .ensures) in
-    omega (arith, w .moves, u .before .loop-test .taken)
+    let u = c .before in
+    omega (arith, u .vx-at .ensures .reads .moves, u .before .loop-test .taken)
 
 loop-again : tie.Need-loop-again Inv-loop μ-loop
 loop-again c =
-    let x = c .before .before .before in
-    let u = x .before .before in
-    tags-turn (u .before .before .loop .inv) (u .before .loop-test .taken) (rw (x .p .given .1) at (u .vx .ensures)) (c .before .pair .ensures)
+    let u = c .before in
+    tags-turn (u .before .before .loop .inv) (u .before .loop-test .taken) (u .vx-at .ensures .reads) (c .pair .ensures)
 
-returns-2 : tie.Need-returns-2 Inv-loop μ-loop
-returns-2 c = tags-end (c .before .loop .inv) (c .loop-test .left)
+returns : tie.Need-returns Inv-loop μ-loop
+returns c = tags-end (c .before .loop .inv) (c .loop-test .left)
 
 pub put-pairs-spec : {M : Type 1} → statement M
 put-pairs-spec =
@@ -63,11 +53,7 @@ put-pairs-spec =
     Inv-loop
     μ-loop
     loop-holds
-    (λ c κs. search needs)
-    (λ c. search needs)
-    (λ c. search needs)
-    (λ c. search needs)
-    returns
+    vx-at-requires
     pair-requires
     (λ c. search needs)
     (λ c. search needs)
@@ -81,4 +67,4 @@ put-pairs-spec =
     loop-less
     loop-again
     (λ c. search needs)
-    returns-2)
+    returns)

@@ -26,8 +26,8 @@ add-end c =
     let w = name-room (u .before .loop .inv .1) (u .loop-test .taken) in
     search (needs, w)
 
-part-same-name-end : tie.Need-part-same-name-end Inv-loop μ-loop
-part-same-name-end c = let u = c .before in name-room (u .before .loop .inv .1) (u .loop-test .taken)
+part-same-bytes-end : tie.Need-part-same-bytes-end Inv-loop μ-loop
+part-same-bytes-end c = let u = c .before in name-room (u .before .loop .inv .1) (u .loop-test .taken)
 
 store-requires : tie.Need-store-requires Inv-loop μ-loop
 store-requires c κs = let u = c .before .before .before .before .before in (entry-room (u .before .loop .inv .1) (u .loop-test .taken), u .before .loop .inv .0)
@@ -36,7 +36,7 @@ loop-again : tie.Need-loop-again Inv-loop μ-loop
 loop-again c =
     let u = c .before .before .before .before in
     let k = u .before .loop .inv in
-    let is = c .before .same-name .ensures in (
+    let is = c .before .same-bytes .ensures in (
       k .0,
       ⊎-elim
           (λ w. rw (w .5) (turn-same (k .1) (u .loop-test .taken) is (w .0 .taken) (w .2 .ensures)))
@@ -63,7 +63,7 @@ put-record-spec =
     add-end
     (λ c. search needs)
     (λ c. search needs)
-    part-same-name-end
+    part-same-bytes-end
     (λ c κs. search needs)
     store-requires
     (λ c. search needs)

@@ -3,8 +3,8 @@ use native.Mathlib.Omega.{arith}
 use borrow.Author.Needs.{needs}
 use Rattle.format.specs.Bodies.{pair}
 use Rattle.format.proofs.Saying.{on, off, given}
-use Rattle.bodies.proofs.tagging.one_pair.Statement.{statement}
-use Rattle.bodies.proofs.tagging.one_pair.Tie as tie
+use Rattle.bodies.proofs.tagging.pair_near_end.Statement.{statement}
+use Rattle.bodies.proofs.tagging.pair_near_end.Tie as tie
 
 returns : tie.Need-returns
 unfolding pair
@@ -33,8 +33,8 @@ returns-3 c =
     let w = rw (c .before .next .given .1) at (b .below2 .ensures .judged _ _ _ _ (b .before .u2 .ensures)) in
     record { says = on _ (v .says) (on _ (w .says) (given refl)); moves = omega (arith, v .moves, w .moves) }
 
-pub one-pair-spec : {M : Type 1} → statement M
-one-pair-spec =
+pub pair-near-end-spec : {M : Type 1} → statement M
+pair-near-end-spec =
     tie.close
     (tie.spec
     (λ c κs. search needs)

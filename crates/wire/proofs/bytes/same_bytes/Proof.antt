@@ -2,8 +2,8 @@ use Prim.Native.Nat.{_-_}
 use lib.ListN.{length}
 use borrow.Author.Needs.{needs}
 use Rattle.format.proofs.Sameness.{different, Sameness, begin, turn, differ, end}
-use Rattle.tables.proofs.records.same_name.Statement.{statement}
-use Rattle.tables.proofs.records.same_name.Tie as tie
+use Rattle.wire.proofs.bytes.same_bytes.Statement.{statement}
+use Rattle.wire.proofs.bytes.same_bytes.Tie as tie
 
 abbrev Inv-loop : tie.InvT-loop
 Inv-loop a b i₀ i = Sameness a b i
@@ -30,8 +30,8 @@ loop-again c =
 returns-3 : tie.Need-returns-3 Inv-loop μ-loop
 returns-3 c = end (c .before .loop .inv) (c .loop-test .left)
 
-pub same-name-spec : {M : Type 1} → statement M
-same-name-spec =
+pub same-bytes-spec : {M : Type 1} → statement M
+same-bytes-spec =
     tie.close
     (tie.spec
     Inv-loop

@@ -2,8 +2,8 @@ use borrow.Author.Needs.{needs}
 use Rattle.format.specs.Bodies.{vertex}
 use Rattle.format.proofs.Counting.{Counting, begin, turn, stop, end}
 use Rattle.bodies.specs.Answers.{index}
-use Rattle.bodies.proofs.vertices.vertex_run.Statement.{statement}
-use Rattle.bodies.proofs.vertices.vertex_run.Tie as tie
+use Rattle.bodies.proofs.vertices.run_near_end.Statement.{statement}
+use Rattle.bodies.proofs.vertices.run_near_end.Tie as tie
 
 abbrev Inv-loop : tie.InvT-loop
 Inv-loop s n kind points c₀ left₀ c left = Counting 2 (vertex (index kind) points) n s (c₀ .at) (c .at) left
@@ -28,8 +28,8 @@ loop-again c =
 returns-2 : tie.Need-returns-2 Inv-loop μ-loop
 returns-2 c = end (c .before .loop .inv) (c .loop-test .left)
 
-pub vertex-run-spec : {M : Type 1} → statement M
-vertex-run-spec =
+pub run-near-end-spec : {M : Type 1} → statement M
+run-near-end-spec =
     tie.close
     (tie.spec
     Inv-loop

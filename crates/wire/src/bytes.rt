@@ -1,0 +1,20 @@
+// Bytes compared, as names are.
+ghost use mathlib.Core.Path.{_≡_};
+ghost use Rattle.format.specs.Bytes.{same};
+
+// Lengths first, then bytes up to the first that differs.
+pub fn same_bytes(a: &[u8], b: &[u8]) -> bool
+    ensures { λ r. ⌜ r ≡ same (now (a .entry)) (now (b .entry)) ⌝ }
+{
+    if a.len() != b.len() {
+        return false;
+    }
+    let mut i = 0;
+    while i < a.len() {
+        if a[i] != b[i] {
+            return false;
+        }
+        i += 1;
+    }
+    true
+}
