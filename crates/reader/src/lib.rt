@@ -1,4 +1,5 @@
-// A file: the first pass judges its chunks in file order and counts; the second puts what they hold into the tables. Every answer is the rule book's.
+// Reading a file into lent tables: the first pass, the test of room, the second pass, and the answer. Whatever is lent, the answer and the tables are the
+// rule book's.
 ghost use Rattle.format.specs.Mesh.{lent};
 ghost use Rattle.reader.specs.Reads.{ReadOf};
 use crate::answers::refused;

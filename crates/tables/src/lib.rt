@@ -1,4 +1,4 @@
-// The second pass: a mesh into the six tables.
+// The second pass over a file that was judged fine: its points, names, polygons and records into the six tables, each by a walk over the chunks.
 ghost use Rattle.format.specs.Mesh.{lent};
 ghost use Rattle.tables.specs.Fills.{TablesRoom, TablesPut};
 use crate::names::fill_names;

@@ -1,4 +1,4 @@
-// The canonical file of a mesh: how long it is, what the writer answers, and the file put into a lent output.
+// The canonical file of a mesh: what the writer answers, and the file put into a lent output. Nothing is put before its whole length is known to fit.
 ghost use mathlib.Core.Path.{_≡_};
 ghost use mathlib.Core.Bool.{true};
 ghost use lib.ListN.{length};
