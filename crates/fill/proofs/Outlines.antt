@@ -1,12 +1,11 @@
 -- One polygon of an LWOB file, put into the tables. Assumes nothing.
 use mathlib.Core.Path.{_≡_, refl, sym, ap, _∙_}
-use mathlib.Core.Bool.{Bool, true, false}
+use mathlib.Core.Bool.{Bool}
 use mathlib.Core.List.{List, [], _∷_, map}
-use Prim.Native.Nat.{ℕ, suc, _+_, _-_, _≤_, _<_}
+use Prim.Native.Nat.{ℕ, _+_, _-_, _≤_}
 use native.Mathlib.Omega.{arith}
 use lib.ListN.{length, take, drop}
 use lib.IntN.{ℤ}
-use borrow.Author.Tests.{lt-ltb, le-ltb}
 use Rattle.format.specs.declared.Kind.the-variants.{LWOB}
 use Rattle.format.specs.declared.Fault.{Fault}
 use Rattle.format.specs.declared.Fault.the-variants.{SurfaceNumber}
@@ -29,14 +28,6 @@ use Rattle.fill.specs.Polygons.{VerticesRoom, VerticesPut, EntryRoom, En
 use Rattle.fill.proofs.Vertices.{above-length, vertices-counted}
 use Rattle.format.proofs.Verdicts.{same-fine, then-fine, chosen}
 use Rattle.fill.proofs.OnePolygon.{after-first, run-there, run-room, run-says}
-
--- ---- a surface number, from its sixteen bits
-
-pub plus : (n : ℕ) → n < 32768 → _≡_ {A = Sign} (record { number = n; negative = false }) (signOf (signed n))
-plus n h = rw (lt-ltb n 32768 h)
-
-pub minus : (n : ℕ) → 32768 ≤ n → n < 65536 → _≡_ {A = Sign} (record { number = 65536 - n; negative = true }) (signOf (signed n))
-minus n h below = let e : 65536 - n ≡ suc (65535 - n) = omega arith in rw (le-ltb n 32768 h, e)
 
 -- ---- what each starts with
 

@@ -19,6 +19,8 @@ use wire::Run;
 use wire::cursor::Cursor;
 use wire::cursor::Sign;
 use wire::cursor::pair;
+use wire::cursor::sign_of;
+use wire::cursor::signed16;
 
 // What was put: the cursor after the surface number, how many vertices there are, and that number.
 pub struct Outlined {
@@ -32,18 +34,7 @@ fn surface_at(s: &[u8], at: usize) -> Sign
     requires { ⌜ at + 2 ≤ length (now s) ⌝ }
     ensures { λ r. ⌜ r ≡ signOf (signed (number (take 2 (drop at (now (s .entry)))))) ⌝ }
 {
-    let n = pair(s, at) as u32;
-    if n < 32768 {
-        Sign {
-            number: n,
-            negative: false,
-        }
-    } else {
-        Sign {
-            number: 65536 - n,
-            negative: true,
-        }
-    }
+    sign_of(signed16(pair(s, at)))
 }
 
 // What every polygon of an LWOB file starts with. A negative surface number tells of details, and the surface is its absolute value.

@@ -183,10 +183,6 @@ module _ {A B C : Type 0} {header : ℕ} {r : Reader A} (k : A → Reader B) {h 
   unfolding whole _then_ _>>=_
   judged-on w j = record { is = rw (exactly w) (j .is) }
 
-  pub judged-some : {D : Type 0} {g : A → D} {answer : Verdict C} {y : D} {next : ℕ} → Says r g s at (got s y next) → ((x : A) → g x ≡ y → JudgedAt header next (k x) h s answer) → JudgedAt header at (r >>= k) h s answer
-  unfolding whole _then_ _>>=_
-  judged-some w j = let m = met w in record { is = rw (m .is) (j (m .value) (m .shows) .is) }
-
   pub judged-off : {D : Type 0} {g : A → D} {why : Fault} {p : ℕ} → Says r g s at (fault why p) → JudgedAt header at (r >>= k) h s (fault why p)
   judged-off w = faulty (off k w)
 

@@ -14,10 +14,10 @@ use Rattle.format.specs.Bytes.{if_then_else_, every}
 use Rattle.format.specs.Refusals.{numberOf, noRoom}
 use Rattle.format.specs.Items.{Verdict, fine, fault}
 use Rattle.format.specs.declared.Kind.{Kind}
-use Rattle.format.specs.Mesh.{Mesh, pointSize, polygonSize, recordSize, Tables, tables, Needs, needs}
+use Rattle.format.specs.Mesh.{Mesh, pointSize, polygonSize, recordSize, Tables, Needs, needs}
 use Rattle.format.specs.Bodies.{Part}
 use Rattle.format.specs.Rules.{Outcome, refused, gives, judged, meshOf, outcome, rules}
-use Rattle.format.specs.Answer.{fits, Answer, answer, filled, tablesAfter}
+use Rattle.format.specs.Answer.{fits, Answer, answer}
 use Rattle.format.proofs.Facts.{every-at}
 use Rattle.laws.specs.Conditions.{Longer}
 
@@ -55,15 +55,6 @@ more-room (gives m k d) t u h other =
     let room : fits (needs m) t ≡ true = had-room m k d t other in
     let more : fits (needs m) u ≡ true = more-fits (needs m) t u h room in
     rw (room, more)
-
--- and where a mesh was accepted, the same entries stand at the front of the longer tables
-pub more-room-tables : (m : Mesh) (k d : ℕ) (t u : Tables) → Longer t u → answer (gives m k d) t .number ≢ noRoom
-    → (tablesAfter (gives m k d) t ≡ filled (tables m) t) × (tablesAfter (gives m k d) u ≡ filled (tables m) u)
-unfolding tablesAfter
-more-room-tables m k d t u h other =
-    let room : fits (needs m) t ≡ true = had-room m k d t other in
-    let more : fits (needs m) u ≡ true = more-fits (needs m) t u h room in
-    (rw room, rw more)
 
 -- ---- when the answer is 16
 

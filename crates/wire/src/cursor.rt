@@ -86,7 +86,7 @@ pub fn word(s: &[u8], at: usize) -> u32
 }
 
 // The signed number that sixteen bits stand for.
-fn signed16(n: u16) -> i16
+pub fn signed16(n: u16) -> i16
     ensures { λ r. ⌜ r ≡ signed n ⌝ }
 {
     if n < 32768 {
@@ -97,7 +97,7 @@ fn signed16(n: u16) -> i16
 }
 
 // The sign decides, and the number is negated only in the wider type: -32,768 stands for 32,768.
-fn sign_of(z: i16) -> Sign
+pub fn sign_of(z: i16) -> Sign
     ensures { λ r. ⌜ r ≡ signOf z ⌝ }
 {
     let wide = z as i32;
