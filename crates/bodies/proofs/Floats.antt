@@ -2,7 +2,7 @@
 use mathlib.Core.Path.{_≡_, refl, sym, _∙_}
 use mathlib.Core.Bool.{Bool, true, false, not, _&&_}
 use mathlib.Core.List.{List}
-use Prim.Native.Nat.{ℕ, _+_, _-_, _*_, _/_, _%_, _≤_, _<_}
+use Prim.Native.Nat.{ℕ, _+_, _-_, _*_, _/_, _%_, _^_, _≤_, _<_}
 use native.Mathlib.Omega.{arith}
 use lib.Dec.{eqb, leb}
 use lib.ListN.{length, take, drop}
@@ -24,9 +24,12 @@ use Rattle.bodies.specs.Answers.{pointCount, PointAt}
 -- ---- one float
 
 -- the exponent is in the high half
-pub high-half : (high low : ℕ) → low < 65536 → not (eqb (high / 128 % 256) 255) ≡ finite (high * 65536 + low)
+pub high-half : (high low : ℕ) → high < 65536 → low < 65536 → not (eqb (high / 128 % 256) 255) ≡ finite (high * 65536 + low)
 unfolding finite
-high-half high low h = let e : high / 128 % 256 ≡ (high * 65536 + low) / 8388608 % 256 = omega arith in rw e
+high-half high low few h =
+    let e : high / 128 % 256 ≡ (high * 65536 + low) / 8388608 % 256 = omega arith in
+    let narrow : high * 65536 + low < 2 ^ 32 = omega arith in
+    rw (lt-ltb _ _ narrow, e)
 
 -- ---- one point, of which no float is cut
 
@@ -41,10 +44,10 @@ module _ (s : List ℕ) (at : ℕ) (room : at + 4 ≤ length s) where
   no-float e = float-bad (uint-whole 4 room refl) e .says
 
 bad-at : {s : List ℕ} {at r : ℕ} → Says point nothing s at (fault NotFinite r) → r < at + 12 → PointAt s at r
-bad-at w h = rw (lt-ltb _ _ h) w
+bad-at w h = record { says = rw (lt-ltb _ _ h) w; near = omega arith }
 
 good-at : {s : List ℕ} {at : ℕ} → Says point nothing s at (got s tt (at + 12)) → PointAt s at (at + 12)
-good-at {s} {at} w = rw (le-ltb (at + 12) (at + 12) (omega arith)) w
+good-at {s} {at} w = record { says = rw (le-ltb (at + 12) (at + 12) (omega arith)) w; near = omega arith }
 
 module _ (s : List ℕ) (at : ℕ) (room : at + 12 ≤ length s) where
   pub x-bad : ok s at ≡ false → PointAt s at at
@@ -107,7 +110,7 @@ module _ (kind : Kind) {s : List ℕ} {n : ℕ} {b : Bool} (size : n ≡ length 
 
     pub stop : {r : ℕ} → at < length s → PointAt s at r → r < at + 12 → Judged (pointsBody kind) pointCount s (fault NotFinite r)
     unfolding pointsBody
-    stop some p h = faulty (right-length 4 _ _ rule (record { is = many-stop (w .rest) some (rw (lt-ltb _ _ h) at p) }))
+    stop some p h = faulty (right-length 4 _ _ rule (record { is = many-stop (w .rest) some (rw (lt-ltb _ _ h) at (p .says)) }))
 
 module _ {s : List ℕ} {n at : ℕ} (w : ReadTo s n at) (some : at < length s) where
   pub room : at + 12 ≤ length s
@@ -120,5 +123,5 @@ module _ {s : List ℕ} {n at : ℕ} (w : ReadTo s n at) (some : at < length s) 
     start = omega (arith, w .start);
     within = omega (arith, room, w .size);
     even = omega (arith, w .start, w .even);
-    rest = many-turn (w .rest) some (rw (le-ltb _ _ h) at p) (omega arith) (λ x xs q. omega (arith, w .start));
+    rest = many-turn (w .rest) some (rw (le-ltb _ _ h) at (p .says)) (omega arith) (λ x xs q. omega (arith, w .start));
   }

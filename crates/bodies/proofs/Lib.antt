@@ -5,4 +5,3 @@ pub mod Sameness
 pub mod Signs
 pub mod Tallying
 pub mod Runs
-pub mod Pairs

@@ -1,6 +1,6 @@
 -- Polygons of an LWOB file: a surface number known by its absolute value and its sign, and what stands before and after it. Assumes nothing.
-use mathlib.Core.Path.{_≡_, sym, ap, _∙_}
-use mathlib.Core.Bool.{Bool, true, false, not, _&&_}
+use mathlib.Core.Path.{_≡_, refl, sym, ap, _∙_}
+use mathlib.Core.Bool.{Bool, not, _&&_}
 use mathlib.Core.List.{List}
 use Prim.Native.Nat.{ℕ}
 use lib.IntN.{ℤ}
@@ -8,13 +8,14 @@ use lib.ListN.{length, drop}
 use Rattle.format.specs.declared.Fault.{Fault}
 use Rattle.format.specs.Bytes.{between, negative}
 use Rattle.format.specs.Items.{Verdict, fine, fault, Got, _then_, Reader, _>>=_, give, times, i2}
-use Rattle.format.specs.Bodies.{listed, lwobVertices, details, detailsAfter}
-use Rattle.format.specs.Said.{itself, nothing, each, got, Says, Keeps, ReadsAt}
-use Rattle.format.proofs.Saying.{exact, exactly, stopped, on-some, off, given}
+use Rattle.format.specs.Bodies.{listed, lwobVertices, detailsAfter}
+use Rattle.format.specs.Said.{itself, nothing, each, Says, Keeps, ReadsAt}
+use Rattle.format.proofs.Saying.{stopped, on-some, off, given}
 use Rattle.format.proofs.Entries.{how-many}
 use Rattle.wire.specs.declared.Run.{Run}
 use Rattle.wire.specs.declared.cursor.Sign.{Sign}
 use Rattle.wire.specs.Answers.{signOf, runAs}
+use Rattle.bodies.specs.Answers.{detailsIf}
 
 -- ---- a surface number
 
@@ -50,11 +51,8 @@ pub asked : {A : Type 0} (r : Reader A) (n k : ℕ) {s : List ℕ} {at : ℕ} (a
 asked r n k (Run.Got m c) w = record { says = on-some _ (w .says) (λ xs e. given (how-many r n (w .says))); moves = w .moves }
 asked r n k (Run.Stop f) w = record { says = off _ (w .says); moves = tt }
 
-module _ (z : ℤ) (pointCount nameCount : ℕ) {s : List ℕ} {at : ℕ} where
-  pub no-details : negative z ≡ false → Says (detailsAfter pointCount nameCount z) itself s at (got s 0 at)
-  unfolding detailsAfter
-  no-details e = exact (rw e)
-
-  pub with-details : {answer : Verdict (Got ℕ)} → negative z ≡ true → Says (details pointCount nameCount) itself s at answer → Says (detailsAfter pointCount nameCount z) itself s at answer
-  unfolding detailsAfter
-  with-details e w = exact (rw e (sym (exactly w)))
+-- the details that follow a surface number are those that its sign tells of
+pub by-sign : (pointCount nameCount : ℕ) {x : Sign} {s : List ℕ} {at : ℕ} {answer : Verdict (Got ℕ)} (z : ℤ) → signOf z ≡ x → Says (detailsIf (x .negative) pointCount nameCount) itself s at answer
+    → Says (detailsAfter pointCount nameCount z) itself s at answer
+unfolding detailsAfter
+by-sign pointCount nameCount z e w = rw (has-sign z e refl) w

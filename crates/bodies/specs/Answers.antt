@@ -1,24 +1,18 @@
--- What the answers of bodies and of their entries say, in the rule book's words. `s` is the lent slice, and `at` the place that was read at.
-use Prim.Native.Nat.{ℕ, _+_, _*_, _<_}
+-- What the answers of bodies and of their entries say, in the specification's words. `s` is the lent slice, and `at` the place that was read at.
+use Prim.Native.Nat.{ℕ, _+_, _*_, _<_, _≤_}
 use mathlib.Core.Path.{_≡_}
 use mathlib.Core.Bool.{Bool}
 use mathlib.Core.List.{List, [], _∷_, map}
 use lib.ListN.{length, take, drop}
-use lib.IntN.{ℤ}
 use lib.Dec.{ltb}
-use Rattle.format.specs.declared.Kind.{Kind}
-use Rattle.format.specs.declared.Kind.the-variants.{LWOB, LWO2}
-use Rattle.format.specs.declared.Fault.{Fault}
 use Rattle.format.specs.declared.Fault.the-variants.{NotFinite}
 use Rattle.format.specs.Bytes.{if_then_else_, sum, amongst}
-use Rattle.format.specs.Items.{Verdict, fine, fault, Got, Reader, _>>=_, give, _or_unless_, many, u2, i2, vx, string}
+use Rattle.format.specs.Items.{Verdict, fine, fault, Got, Reader, _>>=_, give, many, i2, string}
 use Rattle.format.specs.Mesh.{Polygon, Name}
-use Rattle.format.specs.Bodies.{Part, points, names, polygons, tagging, surface, skipped, point, newName, lwobVertices, detailsAfter, face, patch, polygon, pair}
-use Rattle.format.specs.Said.{got, itself, nothing, taking, each, Says, Moves, Keeps}
-use Rattle.wire.specs.declared.cursor.Number.{Number}
-use Rattle.wire.specs.declared.cursor.Item.{Item}
+use Rattle.format.specs.Bodies.{Part, points, names, polygons, tagging, surface, skipped, point, newName, lwobVertices, details, face, patch, polygon, pair}
+use Rattle.format.specs.Said.{got, itself, nothing, taking, Says, Keeps}
 use Rattle.wire.specs.declared.cursor.Sign.{Sign}
-use Rattle.wire.specs.Answers.{NumberAt, ItemAt, signOf}
+use Rattle.wire.specs.Answers.{signOf}
 use Rattle.bodies.specs.declared.points.Points.{Points}
 use Rattle.bodies.specs.declared.names.Names.{Names}
 use Rattle.bodies.specs.declared.outline.Outline.{Outline}
@@ -42,8 +36,9 @@ pointsAs (Points.Got n) = fine n
 pointsAs (Points.Stop f) = fault (f .why) (f .at)
 
 -- the point at a place, by the place r up to which its floats are finite
-abbrev pub PointAt : List ℕ → (at r : ℕ) → Type 0
-PointAt s at r = Says point nothing s at (if ltb r (at + 12) then fault NotFinite r else got s tt (at + 12))
+pub record PointAt (s : List ℕ) (at r : ℕ) : Type 0 where
+  pub says : Says point nothing s at (if ltb r (at + 12) then fault NotFinite r else got s tt (at + 12))
+  pub near : r ≤ at + 12
 
 -- ---- names
 
@@ -65,6 +60,12 @@ pub data Chain (s : List ℕ) (to : ℕ) : ℕ → List Name → Type 0 where
   done : Chain s to to []
   link : {at next : ℕ} {n : Name} {ns : List Name} → at < next → Says string itself s at (got s n next) → Chain s to next ns → Chain s to at (n ∷ ns)
 
+-- the strings of a body from its first byte up to a place, and n bytes at that place
+pub record NameAt (s : List ℕ) (at n : ℕ) : Type 0 where
+  pub earlier : List Name
+  pub chain : Chain s at 8 earlier
+  pub there : at + n ≤ length s
+
 -- whether the name of n bytes at a place is amongst the names before it
 pub record Amongst (s : List ℕ) (at n : ℕ) (r : Bool) : Type 0 where
   pub is : (ns : List Name) → Chain s at 8 ns → r ≡ amongst (take n (drop at s)) ns
@@ -74,14 +75,6 @@ pub record NewName (s : List ℕ) (at n : ℕ) (r : Bool) : Type 0 where
   pub is : (ns : List Name) → Chain s at 8 ns → r ≡ newName ns (take n (drop at s))
 
 -- ---- vertices
-
--- whatever item the number was read as, it is judged by the limit
-pub record Below (n : Number) (limit : ℕ) (why : Fault) (answer : Item) : Type 0 where
-  pub judged : (item : Reader ℕ) (size : ℕ) (s : List ℕ) (at : ℕ) → NumberAt item size s at n → ItemAt (item or why unless (λ v. ltb v limit)) size s at answer
-
-abbrev pub index : Kind → Reader ℕ
-index LWOB = u2
-index LWO2 = vx
 
 -- a count, and vertices
 abbrev pub vertexBytes : ℕ → ℕ
@@ -97,10 +90,9 @@ abbrev pub OutlineAt : (pointCount : ℕ) → List ℕ → ℕ → Outline → T
 OutlineAt pointCount s at (Outline.Got v p x c) = Outlined pointCount s at v p x (c .at)
 OutlineAt pointCount s at (Outline.Stop f) = Says (lwobVertices pointCount >>= (λ vs. i2)) nothing s at (fault (f .why) (f .at))
 
--- the details that follow any surface number with that sign
-pub record DetailsAt (pointCount nameCount : ℕ) (x : Sign) (s : List ℕ) (at : ℕ) (answer : Verdict (Got ℕ)) : Type 0 where
-  pub says : (z : ℤ) → signOf z ≡ x → Says (detailsAfter pointCount nameCount z) itself s at answer
-  pub moves : Moves (each 2) at answer
+-- the details that follow a surface number, by its sign alone
+abbrev pub detailsIf : (negative : Bool) (pointCount nameCount : ℕ) → Reader ℕ
+detailsIf negative pointCount nameCount = if negative then details pointCount nameCount else give 0
 
 -- ---- polygons, in each layout
 

@@ -4,7 +4,7 @@ ghost use Rattle.format.specs.Items.{times};
 ghost use Rattle.format.specs.Bodies.{detail, details, face, facesBody};
 ghost use Rattle.format.specs.Said.{Keeps, ReadsAt, Judged, each};
 ghost use Rattle.wire.specs.Answers.{StepAt, runAs};
-ghost use Rattle.bodies.specs.Answers.{DetailsAt, faceSizes, entryBytes, entryAs, sizesOf, polygonsAs};
+ghost use Rattle.bodies.specs.Answers.{detailsIf, faceSizes, entryBytes, entryAs, sizesOf, polygonsAs};
 use crate::entries::Entry;
 use crate::entries::Layout;
 use crate::entries::Polygons;
@@ -18,7 +18,6 @@ use wire::Run;
 use wire::Step;
 use wire::cursor::Cursor;
 use wire::cursor::Number;
-use wire::cursor::Sign;
 
 // A detail has no details of its own, so that a negative surface number is a fault, and another one than a number that names nothing.
 fn one_detail(s: &[u8], c: Cursor, points: usize, names: usize) -> Step
@@ -85,10 +84,10 @@ fn details(s: &[u8], c: Cursor, points: usize, names: usize) -> Run
 }
 
 // The details that follow a surface number: none unless it is negative.
-pub fn details_after(s: &[u8], c: Cursor, sign: Sign, points: usize, names: usize) -> Run
-    ensures { λ r. ⌜ DetailsAt points names sign (now (s .entry)) (c .at) (runAs (now (s .entry)) r) ⌝ }
+pub fn details_after(s: &[u8], c: Cursor, negative: bool, points: usize, names: usize) -> Run
+    ensures { λ r. ⌜ ReadsAt (detailsIf negative points names) (each 2) (now (s .entry)) (c .at) (runAs (now (s .entry)) r) ⌝ }
 {
-    if sign.negative {
+    if negative {
         details(s, c, points, names)
     } else {
         Run::Got(0, c)
@@ -113,7 +112,7 @@ pub fn face(s: &[u8], c: Cursor, points: usize, names: usize) -> Entry
                     at,
                 });
             }
-            match details_after(s, next, sign, points, names) {
+            match details_after(s, next, sign.negative, points, names) {
                 Run::Stop(f) => Entry::Stop(f),
                 Run::Got(details, last) => Entry::Got {
                     vertices,

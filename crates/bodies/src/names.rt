@@ -5,7 +5,7 @@ ghost use lib.ListN.{length, take, drop};
 ghost use Rattle.format.specs.Bytes.{same};
 ghost use Rattle.format.specs.Bodies.{namesBody};
 ghost use Rattle.format.specs.Said.{Judged};
-ghost use Rattle.bodies.specs.Answers.{Amongst, NewName, nameSizes, namesAs};
+ghost use Rattle.bodies.specs.Answers.{NameAt, Amongst, NewName, nameSizes, namesAs};
 use format::Fault;
 use wire::Refusal;
 use wire::cursor::Cursor;
@@ -37,7 +37,7 @@ fn same_bytes(s: &[u8], a: usize, m: usize, b: usize, n: usize) -> bool
 
 // Whether the name of n bytes at a place is one of those before it. No list of names is kept, so each is read again.
 fn earlier(s: &[u8], at: usize, n: usize) -> bool
-    requires { ⌜ at + n ≤ length (now s) ⌝ }
+    requires { ⌜ NameAt (now s) at n ⌝ }
     ensures { λ r. ⌜ Amongst (now (s .entry)) at n r ⌝ }
 {
     let mut p = 8;
@@ -56,7 +56,7 @@ fn earlier(s: &[u8], at: usize, n: usize) -> bool
 
 // Whether the name may stand after those before it. A name that is too long need not be compared.
 fn new_name(s: &[u8], at: usize, n: usize) -> bool
-    requires { ⌜ at + n ≤ length (now s) ⌝ }
+    requires { ⌜ NameAt (now s) at n ⌝ }
     ensures { λ r. ⌜ NewName (now (s .entry)) at n r ⌝ }
 {
     if 255 < n {

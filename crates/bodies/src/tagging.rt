@@ -1,11 +1,8 @@
 // The body of a PTAG chunk.
-ghost use Prim.Native.Nat.{_+_, _≤_};
-ghost use lib.ListN.{length};
 ghost use Rattle.format.specs.Bodies.{pair, taggingBody};
 ghost use Rattle.format.specs.Said.{nothing, Judged, JudgedAt};
 ghost use Rattle.wire.specs.Answers.{StepAt, checkedAs};
 ghost use Rattle.bodies.specs.Answers.{pairsOf};
-use crate::vertices::below;
 use format::Fault;
 use wire::Checked;
 use wire::Refusal;
@@ -13,56 +10,42 @@ use wire::Step;
 use wire::cursor::Cursor;
 use wire::cursor::Item;
 use wire::cursor::Number;
-use wire::cursor::left;
-use wire::cursor::pair;
-use wire::whole::vx_at;
+use wire::cursor::fault_of;
 
 const SURF: u32 = 0x5355_5246;
 
-// A polygon's number and a tag's, of which one may be cut. Each is judged where it stands, and its fault is at its own place.
-fn pair_near_end(s: &[u8], c: Cursor, polygons: usize, names: usize) -> Step
+// A polygon's number and a tag's. Each is judged where it stands, and its fault is at its own place.
+fn one_pair(s: &[u8], c: Cursor, polygons: usize, names: usize) -> Step
     ensures { λ r. ⌜ StepAt (pair polygons names) 4 (now (s .entry)) (c .at) r ⌝ }
 {
-    match below(c.vx(s), polygons, Fault::PolygonNumber) {
-        Item::Stop(why) => Step::Stop(Refusal { why, at: c.at }),
-        Item::Got(_, after) => match below(after.u2(s), names, Fault::SurfaceNumber) {
-            Item::Stop(why) => Step::Stop(Refusal { why, at: after.at }),
-            Item::Got(_, next) => Step::At(next),
-        },
-    }
-}
-
-// The same, where six bytes are left. A pair takes no more, so that neither number is cut.
-fn pair_before_end(s: &[u8], at: usize, polygons: usize, names: usize) -> Step
-    requires { ⌜ at + 6 ≤ length (now s) ⌝ }
-    ensures { λ r. ⌜ StepAt (pair polygons names) 4 (now (s .entry)) at r ⌝ }
-{
-    let polygon = vx_at(s, at);
-    let after = polygon.next;
-    if polygons <= polygon.number as usize {
+    let at = c.at;
+    let read = c.vx(s);
+    let Item::Got(polygon, after) = read else {
+        return Step::Stop(Refusal {
+            why: fault_of(read),
+            at,
+        });
+    };
+    if polygons <= polygon as usize {
         return Step::Stop(Refusal {
             why: Fault::PolygonNumber,
             at,
         });
     }
-    if names <= pair(s, after) as usize {
+    let place = after.at;
+    let Number::Got(tag, next) = after.u2(s) else {
+        return Step::Stop(Refusal {
+            why: Fault::ItemCut,
+            at: place,
+        });
+    };
+    if names <= tag as usize {
         return Step::Stop(Refusal {
             why: Fault::SurfaceNumber,
-            at: after,
+            at: place,
         });
     }
-    Step::At(Cursor { at: after + 2 })
-}
-
-// Nearly all pairs end well before the body does, so that what is left is tested once for a pair.
-fn one_pair(s: &[u8], at: usize, polygons: usize, names: usize) -> Step
-    ensures { λ r. ⌜ StepAt (pair polygons names) 4 (now (s .entry)) at r ⌝ }
-{
-    if 6 <= left(s, at) {
-        pair_before_end(s, at, polygons, names)
-    } else {
-        pair_near_end(s, Cursor { at }, polygons, names)
-    }
+    Step::At(next)
 }
 
 // The pairs from a place up to the body's end.
@@ -71,7 +54,7 @@ fn pairs(s: &[u8], from: Cursor, polygons: usize, names: usize) -> Checked
 {
     let mut at = from.at;
     while at < s.len() {
-        match one_pair(s, at, polygons, names) {
+        match one_pair(s, Cursor { at }, polygons, names) {
             Step::Stop(f) => {
                 return Checked::Stop(f);
             }

@@ -1,4 +1,4 @@
--- The boundaries of a file's chunks: a fault in a chunk is reported at one of them, and a file without one ends at one. Assumes nothing.
+-- The walk over a file's chunks, boundary by boundary: the first chunk that has a fault is the one that is told, and a file without one ends at a boundary.
 use Prim.Native.Nat.{ℕ, zero, suc, _+_, _-_, _≤_, _<_}
 use mathlib.Core.Path.{_≡_, refl, ap, subst, _∙_}
 use mathlib.Core.List.{List, _∷_}
@@ -13,19 +13,20 @@ use Rattle.format.specs.declared.Fault.{Fault}
 use Rattle.format.specs.declared.Fault.the-variants.{BadHeader}
 use Rattle.format.specs.Bytes.{_is_, number}
 use Rattle.format.specs.Limits.{fileLimit}
-use Rattle.format.specs.Refusals.{numberOf}
+use Rattle.format.specs.Refusals.{numberOf, placeOf}
 use Rattle.format.specs.Items.{Verdict, fine, fault, Got, _then_}
 use Rattle.format.specs.Chunks.{Chunk, sizeOf, lengthOf, wellFormed, chunkOf, Chunks, finished, broken, chunk, chunks}
 use Rattle.format.specs.Bodies.{Part}
 use Rattle.format.specs.Mesh.{Mesh}
-use Rattle.format.specs.Rules.{Before, start, after, judge, located, walk, form, judged, gives, rules}
-use Rattle.format.proofs.Verdicts.{then-fine, passed}
+use Rattle.format.specs.Rules.{Before, start, after, judge, located, walk, form, gives, rules}
+use Rattle.format.proofs.Verdicts.{passed}
+use Rattle.format.proofs.Walks.{accepted}
 use Rattle.format.proofs.Tiling as tiling
 use Rattle.format.proofs.Facts.{every-at}
 use Rattle.laws.proofs.Chunks.{chunkIn}
-use Rattle.laws.proofs.Form.{was-fine}
-use Rattle.demands.specs.Places.{Boundary, first, next, ChunkAt}
-use Rattle.demands.proofs.Faults.{ofChunk, InChunk, judges}
+use Rattle.laws.proofs.Readers.{ofChunk, fault-in-chunk}
+use Rattle.demands.specs.Places.{Boundary, first, next, chunkJudged, FineUpTo, ChunkAtFault}
+use Rattle.demands.specs.Places as places
 
 -- ---- one chunk, by its place in the file
 
@@ -40,9 +41,10 @@ pub record Whole (file : List ℕ) (place : ℕ) : Type 0 where
   pub size : sizeOf 4 (length (got .value .body)) ≡ sizeAt file place
   pub ends : place + sizeAt file place ≤ length file
   pub some : 0 < sizeAt file place
+  pub judged : (kind : Kind) (b : Before) → chunkJudged kind b (drop place file) ≡ judge kind b (got .value .tag) (got .value .body)
 
 pub whole : (file : List ℕ) (place : ℕ) → wellFormed 4 (drop place file) ≡ true → Whole file place
-unfolding chunkOf wellFormed sizeOf
+unfolding chunkOf wellFormed sizeOf chunkJudged _then_
 whole file place ok =
     let b : List ℕ = drop place file in
     let got : Got Chunk = record { value = chunkIn 4 b; next = place + sizeAt file place; left = drop (sizeAt file place) b } in
@@ -56,12 +58,13 @@ whole file place ok =
       size = omega (arith, tiling.framed place b got reads .size);
       ends = omega arith;
       some = omega arith;
+      judged = λ kind b. rw ok;
     }
 
 -- what stands at a place: the file's end, no chunk, or a chunk and then the chunks after it
 data Standing (file : List ℕ) (place : ℕ) : Type 0 where
   end : length file ≤ place → chunks (drop place file) ≡ finished → Standing file place
-  none : place < length file → chunks (drop place file) ≡ broken → Standing file place
+  none : place < length file → chunks (drop place file) ≡ broken → wellFormed 4 (drop place file) ≡ false → Standing file place
   one : place < length file → wellFormed 4 (drop place file) ≡ true → (w : Whole file place)
       → chunks (drop place file) ≡ chunk (w .got .value .tag) (w .got .value .body) (chunks (drop (place + sizeAt file place) file)) → Standing file place
 
@@ -74,53 +77,71 @@ standing file place = by (ltb place (length file)) (wellFormed 4 (drop place fil
     by true false some ok =
         let inside : place < length file = ltb-true _ _ some in
         let unread : chunkOf 4 place (drop place file) ≡ fault BadHeader place = rw ok in
-        none inside (tiling.no-chunk place (drop place file) (rw length-drop (omega arith)) unread)
+        none inside (tiling.no-chunk place (drop place file) (rw length-drop (omega arith)) unread) ok
     by true true some ok =
         let w = whole file place ok in
         one (ltb-true _ _ some) ok w (rw (w .left) at (tiling.next-chunk place (drop place file) (w .got) (w .reads)))
 
 -- ---- the walk over the chunks
 
--- a fault in a chunk is one of a chunk's, and reported at a chunk's tag
-pub record FaultAt (file : List ℕ) (why : Fault) (at : ℕ) : Type 0 where
+-- the fault is the first one, of the chunk at a boundary
+pub record FaultAt (kind : Kind) (file : List ℕ) (why : Fault) (place : ℕ) : Type 0 where
   pub of-chunk : ofChunk why ≡ true
-  pub place : ChunkAt file at
+  pub chunk : ℕ
+  pub inside : chunk < length file
+  pub before : Before
+  pub earlier : FineUpTo kind file chunk before
+  pub at : ℕ
+  pub faulty : chunkJudged kind before (drop chunk file) ≡ fault why at
+  pub place-is : place ≡ placeOf chunk at
 
 -- and where there is none, the file ends at a boundary
-abbrev pub Walked : {A : Type 0} → (file : List ℕ) → Verdict A → Type 0
-Walked file (fine parts) = Boundary file (length file)
-Walked file (fault why at) = FaultAt file why at
+abbrev pub Walked : {A : Type 0} → (kind : Kind) (file : List ℕ) → Verdict A → Type 0
+Walked kind file (fine parts) = Boundary file (length file)
+Walked kind file (fault why place) = FaultAt kind file why place
+
+-- where the walk stands
+record Here (kind : Kind) (file : List ℕ) (place : ℕ) (b : Before) : Type 0 where
+  boundary : Boundary file place
+  earlier : FineUpTo kind file place b
+  most : place ≤ length file
 
 module _ (file : List ℕ) (kind : Kind) where
-  walk-chunk : (b : Before) (place t : ℕ) (body : List ℕ) (rest : Chunks) → ChunkAt file place
-      → ((b : Before) → Walked file (walk kind b (place + sizeOf 4 (length body)) rest)) → Walked file (walk kind b place (chunk t body rest))
+  no-header : (b : Before) (place : ℕ) → Here kind file place b → place < length file → wellFormed 4 (drop place file) ≡ false → FaultAt kind file BadHeader (placeOf place 0)
+  unfolding numberOf chunkJudged chunkOf _then_
+  no-header b place here inside ok = record { of-chunk = refl; chunk = place; inside = inside; before = b; earlier = here .earlier; at = 0; faulty = rw ok; place-is = refl }
+
+  walk-chunk : (b : Before) (place : ℕ) (rest : Chunks) → Here kind file place b → place < length file → (ok : wellFormed 4 (drop place file) ≡ true) → (w : Whole file place)
+      → ((part : Part) → Here kind file (place + sizeAt file place) (after b part) → Walked kind file (walk kind (after b part) (place + sizeOf 4 (length (w .got .value .body))) rest))
+      → Walked kind file (walk kind b place (chunk (w .got .value .tag) (w .got .value .body) rest))
   unfolding walk located _then_
-  walk-chunk b place t body rest here later = by (judge kind b t body) (judges kind b t .each body)
+  walk-chunk b place rest here inside ok w later = by (judge kind b (w .got .value .tag) (w .got .value .body)) refl
     where
-      on : (part : Part) (v : Verdict (List Part)) → Walked file v → Walked file (v then λ parts. fine (part ∷ parts))
-      on part (fine parts) w = w
-      on part (fault why at) w = w
+      on : (part : Part) (v : Verdict (List Part)) → Walked kind file v → Walked kind file (v then λ parts. fine (part ∷ parts))
+      on part (fine parts) x = x
+      on part (fault why at) x = x
 
-      by : (v : Verdict Part) → InChunk v → Walked file (located place v then λ part. walk kind (after b part) (place + sizeOf 4 (length body)) rest then λ parts. fine (part ∷ parts))
-      by (fine part) w = on part (walk kind (after b part) (place + sizeOf 4 (length body)) rest) (later (after b part))
-      by (fault why at) w = record { of-chunk = w; place = here }
+      by : (v : Verdict Part) → judge kind b (w .got .value .tag) (w .got .value .body) ≡ v
+          → Walked kind file (located place v then λ part. walk kind (after b part) (place + sizeOf 4 (length (w .got .value .body))) rest then λ parts. fine (part ∷ parts))
+      by (fine part) e =
+          let there : Here kind file (place + sizeAt file place) (after b part) = record { boundary = next (here .boundary) ok; earlier = places.FineUpTo.next (here .earlier) (w .judged kind b ∙ e); most = w .ends } in
+          on part (walk kind (after b part) (place + sizeOf 4 (length (w .got .value .body))) rest) (later part there)
+      by (fault why at) e = record { of-chunk = fault-in-chunk kind b (w .got .value .tag) (w .got .value .body) e .of-chunk; chunk = place; inside = inside; before = b; earlier = here .earlier; at = at; faulty = w .judged kind b ∙ e; place-is = refl }
 
-  walk-here : (b : Before) (place : ℕ) → Boundary file place → place ≤ length file → Standing file place
-      → (place < length file → wellFormed 4 (drop place file) ≡ true → (b : Before) → Walked file (walk kind b (place + sizeAt file place) (chunks (drop (place + sizeAt file place) file))))
-      → Walked file (walk kind b place (chunks (drop place file)))
-  unfolding walk numberOf
-  walk-here b place here most (end past cs) later = let ends : place ≡ length file = omega arith in rw cs (subst (Boundary file) ends here)
-  walk-here b place here most (none inside cs) later = rw cs (record { of-chunk = refl; place = record { boundary = here; inside = inside } })
-  walk-here b place here most (one inside ok w cs) later =
-      rw cs
-      (walk-chunk b place (w .got .value .tag) (w .got .value .body) (chunks (drop (place + sizeAt file place) file)) (record { boundary = here; inside = inside })
-      (λ b. rw (w .size) (later inside ok b)))
+  walk-here : (b : Before) (place : ℕ) → Here kind file place b → Standing file place
+      → (place < length file → (ok : wellFormed 4 (drop place file) ≡ true) (part : Part) → Here kind file (place + sizeAt file place) (after b part)
+      → Walked kind file (walk kind (after b part) (place + sizeAt file place) (chunks (drop (place + sizeAt file place) file))))
+      → Walked kind file (walk kind b place (chunks (drop place file)))
+  unfolding walk
+  walk-here b place here (end past cs) later = let ends : place ≡ length file = omega (arith, here .most) in rw cs (subst (Boundary file) ends (here .boundary))
+  walk-here b place here (none inside cs ok) later = rw cs (no-header b place here inside ok)
+  walk-here b place here (one inside ok w cs) later =
+      rw cs (walk-chunk b place (chunks (drop (place + sizeAt file place) file)) here inside ok w (λ part there. rw (w .size) (later inside ok part there)))
 
-  walked : (n : ℕ) (b : Before) (place : ℕ) → Boundary file place → place ≤ length file → length file ≤ place + n → Walked file (walk kind b place (chunks (drop place file)))
-  walked zero b place here most few = walk-here b place here most (standing file place) (λ inside ok c. absurd (omega arith))
-  walked (suc n) b place here most few =
-      walk-here b place here most (standing file place)
-      (λ inside ok c. let w = whole file place ok in walked n c (place + sizeAt file place) (next here ok) (w .ends) (omega (arith, w .some)))
+  walked : (n : ℕ) (b : Before) (place : ℕ) → Here kind file place b → length file ≤ place + n → Walked kind file (walk kind b place (chunks (drop place file)))
+  walked zero b place here few = walk-here b place here (standing file place) (λ inside ok part there. absurd (omega arith))
+  walked (suc n) b place here few =
+      walk-here b place here (standing file place) (λ inside ok part there. walked n (after b part) (place + sizeAt file place) there (omega (arith, whole file place ok .some)))
 
 -- ---- the file
 
@@ -137,14 +158,12 @@ headed s kind e =
     ltb-false (length s) 12 (neither (ltb (length s) 12) (not (number (take 4 s) is "FORM")) (known .0) .0)
 
 -- the walk over all chunks starts at the first boundary
-pub walked-file : (file : List ℕ) (kind : Kind) → form file ≡ fine kind → Walked file (walk kind start 12 (chunks (drop 12 file)))
-walked-file file kind e = walked file kind (length file) start 12 first (headed file kind e) (omega arith)
+pub walked-file : (file : List ℕ) (kind : Kind) → form file ≡ fine kind → Walked kind file (walk kind start 12 (chunks (drop 12 file)))
+walked-file file kind e = walked file kind (length file) start 12 (record { boundary = first; earlier = places.FineUpTo.first; most = headed file kind e }) (omega arith)
 
 -- the end of a file that the rules give a mesh
 pub last : {file : List ℕ} {m : Mesh} {k d : ℕ} → rules file ≡ gives m k d → Boundary file (length file)
-unfolding rules judged
 last {file} e =
-    let found = then-fine (form file) _ (was-fine (judged file) e .1) in
-    let read = then-fine (walk (found .0) start 12 (chunks (drop 12 file))) _ (found .2) in
-    let ends : Walked file (fine (read .0)) = rw (read .1) at (walked-file file (found .0) (found .1)) in
+    let a = accepted e in
+    let ends : Walked (a .kind) file (fine (a .parts)) = rw (a .walked) at (walked-file file (a .kind) (a .formed)) in
     ends

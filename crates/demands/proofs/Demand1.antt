@@ -1,70 +1,104 @@
--- Demand 1: every answer of `read` and of `write` is one of the table's, with its place, and a refusal changes nothing. Assumes nothing.
-use Prim.Native.Nat.{ℕ}
+-- Demand 1: the answer goes by what the rules say of the file, or by the writer's three tests in their order; each case is one of the table's rows.
+use Prim.Native.Nat.{ℕ, _≤_, _<_}
 use mathlib.Core.Path.{_≡_, refl, sym, ap, _∙_}
 use mathlib.Core.List.{List}
 use mathlib.Core.Bool.{Bool, true, false, not, true≢false}
 use native.Mathlib.Omega.{arith}
-use lib.Dec.{ltb, eqb}
+use lib.Dec.{leb, ltb, eqb}
 use lib.ListN.{length}
-use borrow.Author.Tests.{ne-eqb}
-use Rattle.format.specs.Bytes.{if_then_else_}
+use borrow.Author.Tests.{le-leb, ltb-true, ltb-false, lt-ltb, le-ltb}
+use Rattle.format.specs.Bytes.{if_then_else_, between}
 use Rattle.format.specs.Limits.{fileLimit}
 use Rattle.format.specs.Refusals.{noRoom, notMesh, tooLong}
 use Rattle.format.specs.Mesh.{Tables, tables, needs}
 use Rattle.format.specs.Rules.{Outcome, refused, gives, rules}
-use Rattle.format.specs.Answer.{Answer, answer, fits, over, filled, tablesAfter}
-use Rattle.format.specs.Canonical.{canonical}
-use Rattle.format.specs.Written.{meshFrom, isMesh, Written, says, written, outputAfter}
-use Rattle.reader.specs.declared.Answer.{Answer as ReadAnswer}
-use Rattle.reader.specs.Reads.{answerAs, ReadOf}
-use Rattle.writer.specs.declared.Answer.{Answer as WriteAnswer}
-use Rattle.writer.specs.Writes.{answerAs as writeAs}
-use Rattle.writer.specs.Writes.{WriteOf}
-use Rattle.demands.specs.Demand1.{ReadAnswers, writeNumbers, oneOf, WriteAnswers, Demand1}
+use Rattle.format.specs.Answer.{Answer, answer, fits, over, filled, tablesAfter, Reads}
+use Rattle.format.specs.Written.{isMesh, Written, says, written, outputAfter, Writes}
+use Rattle.format.proofs.Facts.{impossible, between-true}
+use Rattle.demands.specs.Demand1.{Refused, refusal, placedInChunk, ReadAnswers, fileOf, TooLong, OutputShort, WriteAnswers, Demand1}
 use Rattle.demands.proofs.Refusals.{InOutcome, rules-in}
 
-read-answers : {file : List ℕ} {t t′ : Tables} {a : ReadAnswer} → ReadOf file t a t′ → ReadAnswers file t a t′
-unfolding answer tablesAfter
-read-answers {file} {t} {t′} {a} r = by (rules file) (rules-in file) (r .answers) (r .leaves)
-  where
-    room : (b : Bool) (u : Tables) → a .number ≡ (if b then 0 else noRoom) → a .place ≡ 0 → t′ ≡ (if b then u else t) → ReadAnswers file t a t′
-    room true u number place l = record { number = omega arith; place-of-chunk = rw number (λ e. absurd (true≢false (sym e))); place-of-file = λ e. place; leaves = λ other. absurd (other number) }
-    room false u number place l = record { number = omega arith; place-of-chunk = rw number (λ e. absurd (true≢false (sym e))); place-of-file = λ e. place; leaves = λ other. l }
+-- ---- file readers
 
-    by : (o : Outcome) → InOutcome file o → answerAs a ≡ answer o t → t′ ≡ tablesAfter o t → ReadAnswers file t a t′
-    by (refused number place) w e l =
-        let is-number : a .number ≡ number = ap (λ (x : Answer). x .number) e in
-        let is-place : a .place ≡ place = ap (λ (x : Answer). x .place) e in
-        record {
-          number = omega (arith, w .few);
-          place-of-chunk = rw (is-number, is-place) (w .of-chunk);
-          place-of-file = rw (is-number, is-place) (w .of-file);
-          leaves = λ other. l;
-        }
-    by (gives m k d) w e l = room (fits (needs m) t) (filled (tables m) t) (ap (λ (x : Answer). x .number) e) (ap (λ (x : Answer). x .place) e) l
+module _ {file : List ℕ} {t t′ : Tables} {a : Answer} where
+  -- the rules give a mesh: 0 or 16
+  given : (b : Bool) (u : Tables) → (Refused file → ⊥) → a .number ≡ (if b then 0 else noRoom) → a .place ≡ 0 → t′ ≡ (if b then u else t) → ReadAnswers file t a t′
+  given true u none number place l = record {
+    exactly = (rw number (λ e. absurd (true≢false (sym e))), λ r. absurd (none r));
+    told = λ r. absurd (none r);
+    number = omega arith;
+    place-of-chunk = rw number (λ e. absurd (true≢false (sym e)));
+    place-of-file = λ e. place;
+    leaves = λ other. absurd (other number);
+  }
+  given false u none number place l = record {
+    exactly = (rw number (λ e. absurd (true≢false (sym e))), λ r. absurd (none r));
+    told = λ r. absurd (none r);
+    number = omega arith;
+    place-of-chunk = rw number (λ e. absurd (true≢false (sym e)));
+    place-of-file = λ e. place;
+    leaves = λ other. l;
+  }
 
-write-answers : {t : Tables} {out out′ : List ℕ} {a : WriteAnswer} → WriteOf t out a out′ → WriteAnswers out a out′
-unfolding written outputAfter oneOf
-write-answers {t} {out} {out′} {a} w = by (not (isMesh t)) (ltb fileLimit n) (ltb (length out) n) (w .answers) (w .leaves)
-  where
-    file : List ℕ
-    file = canonical (meshFrom t)
+  read-by : (o : Outcome) → InOutcome file o → rules file ≡ o → a ≡ answer o t → t′ ≡ tablesAfter o t → ReadAnswers file t a t′
+  unfolding answer tablesAfter
+  read-by (refused number place) w is e l =
+      let is-number : a .number ≡ number = ap (λ (x : Answer). x .number) e in
+      let is-place : a .place ≡ place = ap (λ (x : Answer). x .place) e in
+      let in-range : between 1 15 number ≡ true = rw (le-leb 1 number (w .some), le-leb number 15 (w .few)) in
+      record {
+        exactly = (λ h. record { number = number; place = place; by-rules = is }, λ r. rw is-number in-range);
+        told = λ r. e ∙ (cc (is, r .by-rules));
+        number = omega (arith, w .few);
+        place-of-chunk = rw (is-number, is-place) (w .of-chunk);
+        place-of-file = rw (is-number, is-place) (w .of-file);
+        leaves = λ other. l;
+      }
+  read-by (gives m k d) w is e l =
+      given (fits (needs m) t) (filled (tables m) t) (λ r. impossible (cc (is, r .by-rules))) (ap (λ (x : Answer). x .number) e) (ap (λ (x : Answer). x .place) e) l
 
-    n : ℕ
-    n = length file
+read-answers : {file : List ℕ} {t t′ : Tables} {a : Answer} → Reads file t a t′ → ReadAnswers file t a t′
+read-answers {file} r = read-by (rules file) (rules-in file) refl (r .answers) (r .leaves)
 
-    said : (k l : ℕ) → oneOf writeNumbers k ≡ true → writeAs a ≡ says k l → out′ ≡ (if eqb k 0 then over file out else out) → WriteAnswers out a out′
-    said k l known e left =
-        let number : a .number ≡ k = ap (λ (x : Written). x .number) e in
-        record { number = rw number known; place = ap (λ (x : Written). x .place) e; leaves = λ other. rw (ne-eqb k 0 (λ z. other (number ∙ z))) at left }
+-- ---- writers
 
-    by : (x y z : Bool) → writeAs a ≡ (if x then says notMesh 0 else if y then says tooLong 0 else if z then says noRoom n else says 0 n)
-        → out′ ≡ (if eqb ((if x then says notMesh 0 else if y then says tooLong 0 else if z then says noRoom n else says 0 n) .number) 0 then over file out else out)
-        → WriteAnswers out a out′
-    by true y z = said notMesh 0 refl
-    by false true z = said tooLong 0 refl
-    by false false true = said noRoom n refl
-    by false false false = said 0 n refl
+-- two answers with different numbers are not the same
+differ : {k l m n : ℕ} {P : Type 0} → (k ≡ m → ⊥) → says k l ≡ says m n → P
+differ other e = absurd (other (ap (λ (x : Written). x .number) e))
+
+module _ {t : Tables} {out out′ : List ℕ} where
+  by-tests : (x y z : Bool) → isMesh t ≡ x → ltb fileLimit (length (fileOf t)) ≡ y → ltb (length out) (length (fileOf t)) ≡ z → {a : Written}
+      → a ≡ (if not x then says notMesh 0 else if y then says tooLong 0 else if z then says noRoom (length (fileOf t)) else says 0 (length (fileOf t)))
+      → out′ ≡ (if eqb (a .number) 0 then over (fileOf t) out else out) → WriteAnswers t out a out′
+  by-tests false y z mesh long short e left = rw e (record {
+    not-mesh = (λ q. mesh, λ q. refl);
+    too-long = (differ (λ q. omega arith), λ h. absurd (true≢false (sym (h .mesh) ∙ mesh)));
+    no-room = (differ (λ q. omega arith), λ h. absurd (true≢false (sym (h .mesh) ∙ mesh)));
+    leaves = λ other. rw e at left;
+  })
+  by-tests true true z mesh long short e left = rw e (record {
+    not-mesh = (differ (λ q. omega arith), λ q. absurd (true≢false (sym mesh ∙ q)));
+    too-long = (λ q. record { mesh = mesh; long = omega (arith, ltb-true fileLimit (length (fileOf t)) long) }, λ q. refl);
+    no-room = (differ (λ q. omega arith), λ h. absurd (omega (arith, ltb-true fileLimit (length (fileOf t)) long, h .limit)));
+    leaves = λ other. rw e at left;
+  })
+  by-tests true false true mesh long short e left = rw e (record {
+    not-mesh = (differ (λ q. omega arith), λ q. absurd (true≢false (sym mesh ∙ q)));
+    too-long = (differ (λ q. omega arith), λ h. absurd (omega (arith, ltb-false fileLimit (length (fileOf t)) long, h .long)));
+    no-room = (λ q. record { mesh = mesh; limit = omega (arith, ltb-false fileLimit (length (fileOf t)) long); short = omega (arith, ltb-true (length out) (length (fileOf t)) short) }, λ q. refl);
+    leaves = λ other. rw e at left;
+  })
+  by-tests true false false mesh long short e left = rw e (record {
+    not-mesh = (differ (λ q. omega arith), λ q. absurd (true≢false (sym mesh ∙ q)));
+    too-long = (differ (λ q. omega arith), λ h. absurd (omega (arith, ltb-false fileLimit (length (fileOf t)) long, h .long)));
+    no-room = (differ (λ q. omega arith), λ h. absurd (omega (arith, ltb-false (length out) (length (fileOf t)) short, h .short)));
+    leaves = λ other. absurd (other refl);
+  })
+
+write-answers : {t : Tables} {out out′ : List ℕ} {a : Written} → Writes t out a out′ → WriteAnswers t out a out′
+unfolding written outputAfter
+write-answers {t} {out} {out′} {a} w =
+    by-tests (isMesh t) (ltb fileLimit (length (fileOf t))) (ltb (length out) (length (fileOf t))) refl refl refl (w .answers) (w .leaves ∙ ap (λ (x : Written). if eqb (x .number) 0 then over (fileOf t) out else out) (sym (w .answers)))
 
 pub demand-1 : Demand1
-demand-1 = record { of-read = read-answers; of-write = write-answers }
+demand-1 = record { of-reader = read-answers; of-writer = write-answers }

@@ -1,4 +1,4 @@
--- Demand 3: longer tables, NO ROOM exactly, and one more unlisted chunk. Assumes nothing.
+-- Demand 3: room decides between 0 and 16 alone, and a chunk put in between two others is walked over.
 use Prim.Native.Nat.{ℕ, _+_, _/_, _<_}
 use mathlib.Core.Path.{_≡_, refl, sym, ap, _∙_}
 use mathlib.Core.List.{List, []}
@@ -17,13 +17,11 @@ use Rattle.format.specs.Items.{_then_}
 use Rattle.format.specs.Chunks.{sizeOf, lengthOf, wellFormed}
 use Rattle.format.specs.Rules.{kindOf, form, gives, rules}
 use Rattle.format.specs.Canonical.{bytes, chunkBytes, formBytes}
-use Rattle.format.specs.Answer.{Answer, answer, fits, filled}
+use Rattle.format.specs.Answer.{Answer, answer, fits, filled, Reads}
 use Rattle.format.proofs.Facts.{every-at}
 use Rattle.laws.proofs.Room as room
 use Rattle.laws.specs.Conditions.{Longer}
 use Rattle.laws.proofs.Room.{more-room}
-use Rattle.reader.specs.declared.Answer.{Answer as ReadAnswer}
-use Rattle.reader.specs.Reads.{answerAs as readAs, ReadOf}
 use Rattle.demands.specs.Places.{first}
 use Rattle.demands.specs.Demand2.{Given, Readable}
 use Rattle.demands.specs.Demand3.{SameAnswer, Shorter, points, polygons, vertices, names, name-bytes, records, NoRoom, SaysNoRoom, withChunk, OneMore, AsLong, oneMoreSkipped, OnlySkipped, Demand3}
@@ -32,7 +30,7 @@ use Rattle.demands.proofs.Boundaries.{last}
 use Rattle.demands.proofs.Insertion.{inserted}
 
 -- where a mesh was accepted, the tables hold it
-holds : {file : List ℕ} {t t′ : Tables} {a : ReadAnswer} → ReadOf file t a t′ → (g : Given file) → a .number ≡ 0 → t′ ≡ filled (tables (g .mesh)) t
+holds : {file : List ℕ} {t t′ : Tables} {a : Answer} → Reads file t a t′ → (g : Given file) → a .number ≡ 0 → t′ ≡ filled (tables (g .mesh)) t
 holds {file} {t} r g zero =
     let x : Readable file t = reads-mesh r .exactly .0 zero in
     let same : x .given .mesh ≡ g .mesh = cc (x .given .by-rules, g .by-rules) in
@@ -40,11 +38,11 @@ holds {file} {t} r g zero =
 
 -- ---- longer tables
 
-longer : {file : List ℕ} {t t′ u u′ : Tables} {a b : ReadAnswer} → ReadOf file t a t′ → ReadOf file u b u′ → Longer t u → a .number ≢ noRoom
+longer : {file : List ℕ} {t t′ u u′ : Tables} {a b : Answer} → Reads file t a t′ → Reads file u b u′ → Longer t u → a .number ≢ noRoom
     → SameAnswer file t a t′ u b u′
 longer {file} {t} {t′} {u} {u′} {a} {b} r q more other =
     let number : a .number ≡ answer (rules file) t .number = ap (λ (x : Answer). x .number) (r .answers) in
-    let same : readAs b ≡ readAs a = q .answers ∙ more-room (rules file) t u more (λ e. other (number ∙ e)) ∙ sym (r .answers) in
+    let same : b ≡ a = q .answers ∙ more-room (rules file) t u more (λ e. other (number ∙ e)) ∙ sym (r .answers) in
     record { answer = same; entries = λ g zero. record { here = holds r g zero; there = holds q g (ap (λ (x : Answer). x .number) same ∙ zero) } }
 
 -- ---- NO ROOM
@@ -57,7 +55,7 @@ or-else {P} need long short enough = by (leb need long) refl
     by true e = enough e
     by false e = short (leb-false need long e)
 
-shorter : (n : Needs) (t : Tables) → fits n t ≡ false → Shorter n t
+pub shorter : (n : Needs) (t : Tables) → fits n t ≡ false → Shorter n t
 unfolding fits every
 shorter n t e =
     or-else (n .points) (length (t .points) / pointSize) (λ h. points (omega arith))
@@ -90,10 +88,10 @@ no-room {file} {t} n = record {
     not-true true f = absurd (f refl)
     not-true false f = refl
 
-no-room-exactly : {file : List ℕ} {t t′ : Tables} {a : ReadAnswer} → ReadOf file t a t′ → SaysNoRoom file t a
+no-room-exactly : {file : List ℕ} {t t′ : Tables} {a : Answer} → Reads file t a t′ → SaysNoRoom file t a
 unfolding no-room
 no-room-exactly {file} {t} {t′} {a} r =
-    let full : (n : NoRoom file t) → readAs a ≡ record { number = noRoom; place = 0; needs = needs (n .given .mesh); skipped = n .given .skipped; details = n .given .details } =
+    let full : (n : NoRoom file t) → a ≡ record { number = noRoom; place = 0; needs = needs (n .given .mesh); skipped = n .given .skipped; details = n .given .details } =
     λ n. r .answers ∙ room.no-room-answer (rules file) t (no-room n) in
     let found : a .number ≡ noRoom → NoRoom file t =
     λ e. let x = room.no-room-exactly file t .0 (sym (ap (λ (x : Answer). x .number) (r .answers)) ∙ e) in
@@ -106,14 +104,14 @@ fits-same : (n : Needs) {t u : Tables} → AsLong t u → fits n u ≡ fits n t
 unfolding fits
 fits-same n h = rw (h .points, h .polygons, h .vertices, h .names, h .nameBytes, h .records)
 
-only-skipped : {kind : Kind} {file : List ℕ} {place : ℕ} {c : List ℕ} {t t′ u u′ : Tables} {a b : ReadAnswer} → OneMore kind file place c → (g : Given file)
-    → ReadOf file t a t′ → ReadOf (withChunk place c file) u b u′ → AsLong t u → OnlySkipped (g .mesh) t a t′ u b u′
+only-skipped : {kind : Kind} {file : List ℕ} {place : ℕ} {c : List ℕ} {t t′ u u′ : Tables} {a b : Answer} → OneMore kind file place c → (g : Given file)
+    → Reads file t a t′ → Reads (withChunk place c file) u b u′ → AsLong t u → OnlySkipped (g .mesh) t a t′ u b u′
 unfolding answer
 only-skipped {file = file} {place = place} {c = c} {t = t} {u = u} {a = a} {b = b} o g r q long =
     let with : Given (withChunk place c file) = record { mesh = g .mesh; skipped = 1 + g .skipped; details = g .details; by-rules = inserted o (g .by-rules) } in
-    let old : readAs a ≡ answer (gives (g .mesh) (g .skipped) (g .details)) t = r .answers ∙ rw (g .by-rules) in
-    let new : readAs b ≡ oneMoreSkipped (answer (gives (g .mesh) (g .skipped) (g .details)) t) = q .answers ∙ rw (with .by-rules, fits-same (needs (g .mesh)) long) in
-    let same : readAs b ≡ oneMoreSkipped (readAs a) = new ∙ sym (ap oneMoreSkipped old) in
+    let old : a ≡ answer (gives (g .mesh) (g .skipped) (g .details)) t = r .answers ∙ rw (g .by-rules) in
+    let new : b ≡ oneMoreSkipped (answer (gives (g .mesh) (g .skipped) (g .details)) t) = q .answers ∙ rw (with .by-rules, fits-same (needs (g .mesh)) long) in
+    let same : b ≡ oneMoreSkipped a = new ∙ sym (ap oneMoreSkipped old) in
     record { answer = same; entries = λ zero. record { here = holds r g zero; there = holds q with (ap (λ (x : Answer). x .number) same ∙ zero) } }
 
 pub demand-3 : Demand3

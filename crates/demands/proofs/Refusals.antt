@@ -1,4 +1,4 @@
--- A file that the rules refuse: the number and the place are as the table has them. Assumes nothing.
+-- A file that the rules refuse: its first twelve bytes are judged by cases, and its chunks by the walk over them.
 use Prim.Native.Nat.{ℕ, _+_, _≤_}
 use mathlib.Core.Path.{_≡_, refl, sym, _∙_}
 use mathlib.Core.List.{List}
@@ -18,7 +18,7 @@ use Rattle.format.specs.Chunks.{chunks}
 use Rattle.format.specs.Bodies.{Part}
 use Rattle.format.specs.Rules.{start, walk, kindOf, form, judged, Outcome, refused, gives, outcome, rules}
 use Rattle.format.proofs.Facts.{between-true}
-use Rattle.demands.specs.Places.{ChunkAt}
+use Rattle.demands.specs.Places.{ChunkAtFault}
 use Rattle.demands.specs.Demand1.{placedInChunk}
 use Rattle.demands.proofs.Boundaries.{FaultAt, Walked, walked-file}
 
@@ -26,7 +26,7 @@ use Rattle.demands.proofs.Boundaries.{FaultAt, Walked, walked-file}
 pub record Refusal (file : List ℕ) (number place : ℕ) : Type 0 where
   pub some : 1 ≤ number
   pub few : number ≤ 15
-  pub of-chunk : placedInChunk number ≡ true → ChunkAt file place
+  pub of-chunk : placedInChunk number ≡ true → ChunkAtFault file number place
   pub of-file : placedInChunk number ≡ false → place ≡ 0
 
 -- ---- 1, 2 and 3
@@ -67,10 +67,12 @@ InTable file (fine x) = Unit
 InTable file (fault why at) = Refusal file (numberOf why) at
 
 module _ (file : List ℕ) where
-  chunk-row : (why : Fault) (at : ℕ) → FaultAt file why at → Refusal file (numberOf why) at
-  chunk-row why at f =
+  chunk-row : (kind : Kind) → form file ≡ fine kind → (why : Fault) (at : ℕ) → FaultAt kind file why at → Refusal file (numberOf why) at
+  chunk-row kind of-kind why at f =
       let range = between-true _ _ (numberOf why) (f .of-chunk) in
-      record { some = omega arith; few = omega arith; of-chunk = λ e. f .place; of-file = λ e. absurd (true≢false (sym (f .of-chunk) ∙ e)) }
+      let told : ChunkAtFault file (numberOf why) at =
+      record { kind = kind; of-kind = of-kind; chunk = f .chunk; inside = f .inside; before = f .before; earlier = f .earlier; why = why; at = f .at; faulty = f .faulty; number-is = refl; place-is = f .place-is } in
+      record { some = omega arith; few = omega arith; of-chunk = λ e. told; of-file = λ e. absurd (true≢false (sym (f .of-chunk) ∙ e)) }
 
   file-row : (why : Fault) (at : ℕ) → InFile {A = Kind} (fault why at) → Refusal file (numberOf why) at
   file-row why at w =
@@ -81,14 +83,14 @@ module _ (file : List ℕ) where
   unfolding judged _then_
   judged-in = by (form file) (form-in file) refl
     where
-      on : (kind : Kind) (v : Verdict (List Part)) → Walked file v → InTable {A = Kind × List Part} file (v then λ parts. fine (kind, parts))
-      on kind (fine parts) w = tt
-      on kind (fault why at) w = chunk-row why at w
+      on : (kind : Kind) → form file ≡ fine kind → (v : Verdict (List Part)) → Walked kind file v → InTable {A = Kind × List Part} file (v then λ parts. fine (kind, parts))
+      on kind e (fine parts) w = tt
+      on kind e (fault why at) w = chunk-row kind e why at w
 
       by : (v : Verdict Kind) → InFile v → form file ≡ v
           → InTable {A = Kind × List Part} file (v then λ kind. walk kind start 12 (chunks (drop 12 file)) then λ parts. fine (kind, parts))
       by (fault why at) w e = file-row why at w
-      by (fine kind) w e = on kind (walk kind start 12 (chunks (drop 12 file))) (walked-file file kind e)
+      by (fine kind) w e = on kind e (walk kind start 12 (chunks (drop 12 file))) (walked-file file kind e)
 
 -- the outcome of a file, where it is a refusal
 abbrev pub InOutcome : (file : List ℕ) → Outcome → Type 0

@@ -1,58 +1,82 @@
--- DEMAND 1. "Whatever bytes and buffers come in, each public entry answers and stops. A refusal is a number from the table with a place, and changes no byte
--- of any table or output." That each call answers and stops is what a proved function means: `read` and `write` ask nothing of their caller.
-use Prim.Native.Nat.{ℕ, _≤_}
+-- DEMAND 1. "Whatever bytes come in, and whatever buffers we lend, each public entry answers and stops by itself. A refusal is a number from your table with
+-- the place of the chunk, and no table or output buffer of ours is changed by one byte." That each call answers and stops is what a proved function means: no
+-- public entry asks anything of its caller.
+use Prim.Native.Nat.{ℕ, _≤_, _<_}
 use mathlib.Core.Path.{_≡_}
-use mathlib.Core.List.{List, [], _∷_}
-use mathlib.Core.Bool.{Bool, true, false, _||_}
-use mathlib.Core.Logic.{_≢_}
-use lib.Dec.{eqb}
+use mathlib.Core.List.{List}
+use mathlib.Core.Bool.{Bool, true, false}
+use mathlib.Core.Logic.{_↔_, _≢_}
+use lib.ListN.{length}
 use Rattle.format.specs.Bytes.{between}
+use Rattle.format.specs.Limits.{fileLimit}
 use Rattle.format.specs.Refusals.{noRoom, notMesh, tooLong}
 use Rattle.format.specs.Mesh.{Tables}
-use Rattle.reader.specs.declared.Answer.{Answer as ReadAnswer}
-use Rattle.reader.specs.Reads.{ReadOf}
-use Rattle.writer.specs.declared.Answer.{Answer as WriteAnswer}
-use Rattle.writer.specs.Writes.{WriteOf}
-use Rattle.demands.specs.Places.{ChunkAt}
+use Rattle.format.specs.Rules.{refused, rules}
+use Rattle.format.specs.Answer.{Answer, noNeeds, Reads}
+use Rattle.format.specs.Canonical.{canonical}
+use Rattle.format.specs.Written.{meshFrom, isMesh, Written, says, Writes}
+use Rattle.demands.specs.Places.{ChunkAtFault}
 
--- ---- read
+-- ---- file readers
 
--- the numbers for which the table's place is a chunk
+-- the rules refuse the file
+pub record Refused (file : List ℕ) : Type 0 where
+  pub number : ℕ
+  pub place : ℕ
+  pub by-rules : rules file ≡ refused number place
+
+-- "on every other refusal they are 0": needs and counts
+abbrev pub refusal : (number place : ℕ) → Answer
+refusal number place = record { number = number; place = place; needs = noNeeds; skipped = 0; details = 0 }
+
+-- the numbers for which the table's place is "chunk"
 abbrev pub placedInChunk : (number : ℕ) → Bool
 placedInChunk number = between 4 15 number
 
--- what `read` answers for a file and the tables t, which come back as t′
-pub record ReadAnswers (file : List ℕ) (t : Tables) (a : ReadAnswer) (t′ : Tables) : Type 0 where
-  -- "a number from the table": 0 is no refusal, 1 to 16 are the reader's
+-- a reader answers a for a file and the tables t, which come back as t′
+pub record ReadAnswers (file : List ℕ) (t : Tables) (a : Answer) (t′ : Tables) : Type 0 where
+  -- "A refusal is a number from your table": 1 to 15 exactly when the rules refuse the file; of 16 demand 3 tells
+  pub exactly : (between 1 15 (a .number) ≡ true) ↔ Refused file
+  -- with the rules' own number and place
+  pub told : (r : Refused file) → a ≡ refusal (r .number) (r .place)
+  -- and there is no number above 16
   pub number : a .number ≤ noRoom
-  -- "with a place": for 4 to 15 the offset of a top-level chunk's tag
-  pub place-of-chunk : placedInChunk (a .number) ≡ true → ChunkAt file (a .place)
+  -- "with the place of the chunk"
+  pub place-of-chunk : placedInChunk (a .number) ≡ true → ChunkAtFault file (a .number) (a .place)
   -- and for 0, 1, 2, 3 and 16 the place 0
   pub place-of-file : placedInChunk (a .number) ≡ false → a .place ≡ 0
-  -- "and changes no byte of any table"
+  -- "no table or output buffer of ours is changed by one byte"
   pub leaves : a .number ≢ 0 → t′ ≡ t
 
--- ---- write
+-- ---- writers
 
--- 0 is no refusal
-abbrev pub writeNumbers : List ℕ
-writeNumbers = 0 ∷ noRoom ∷ notMesh ∷ tooLong ∷ []
+-- the file of the mesh that the tables hold
+abbrev pub fileOf : Tables → List ℕ
+fileOf t = canonical (meshFrom t)
 
-unfoldable pub oneOf : List ℕ → ℕ → Bool
-oneOf [] n = false
-oneOf (k ∷ ks) n = eqb k n || oneOf ks n
+-- "The writer: 17, 18, 16." Each is judged where those before it do not apply.
+pub record TooLong (t : Tables) : Type 0 where
+  pub mesh : isMesh t ≡ true
+  pub long : fileLimit < length (fileOf t)
 
--- what `write` answers for the output `out`, which comes back as out′
-pub record WriteAnswers (out : List ℕ) (a : WriteAnswer) (out′ : List ℕ) : Type 0 where
-  -- "a number from the table"
-  pub number : oneOf writeNumbers (a .number) ≡ true
-  -- "with a place"
-  pub place : a .place ≡ 0
-  -- "and changes no byte of any .. output"
+pub record OutputShort (t : Tables) (out : List ℕ) : Type 0 where
+  pub mesh : isMesh t ≡ true
+  pub limit : length (fileOf t) ≤ fileLimit
+  pub short : length out < length (fileOf t)
+
+-- a writer answers a for the tables t and the output out, which comes back as out′
+pub record WriteAnswers (t : Tables) (out : List ℕ) (a : Written) (out′ : List ℕ) : Type 0 where
+  -- 17: "writer: not a mesh". A refusal has place 0, and a length: "bytes needed on 16, else 0"
+  pub not-mesh : (a ≡ says notMesh 0) ↔ (isMesh t ≡ false)
+  -- 18: "writer: canonical file too long"
+  pub too-long : (a ≡ says tooLong 0) ↔ TooLong t
+  -- 16: "NO ROOM: table or output too short"
+  pub no-room : (a ≡ says noRoom (length (fileOf t))) ↔ OutputShort t out
+  -- "no table or output buffer of ours is changed by one byte"; tables are lent to a writer as shared slices
   pub leaves : a .number ≢ 0 → out′ ≡ out
 
 -- ---- the demand
 
 pub record Demand1 : Type 0 where
-  pub of-read : {file : List ℕ} {t t′ : Tables} {a : ReadAnswer} → ReadOf file t a t′ → ReadAnswers file t a t′
-  pub of-write : {t : Tables} {out out′ : List ℕ} {a : WriteAnswer} → WriteOf t out a out′ → WriteAnswers out a out′
+  pub of-reader : {file : List ℕ} {t t′ : Tables} {a : Answer} → Reads file t a t′ → ReadAnswers file t a t′
+  pub of-writer : {t : Tables} {out out′ : List ℕ} {a : Written} → Writes t out a out′ → WriteAnswers t out a out′

@@ -2,3 +2,5 @@ pub mod Places
 pub mod Demand1
 pub mod Demand2
 pub mod Demand3
+pub mod Complete
+pub mod Entries

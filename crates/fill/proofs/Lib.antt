@@ -1,4 +1,5 @@
 pub mod Words
+mod Known
 mod Copies
 pub mod Tags
 mod Missing

@@ -2,32 +2,31 @@
 use mathlib.Core.Path.{_≡_, refl, sym, ap, _∙_}
 use mathlib.Core.Bool.{Bool}
 use mathlib.Core.List.{List, [], _∷_, map}
-use Prim.Native.Nat.{ℕ, _+_, _-_, _≤_}
+use Prim.Native.Nat.{ℕ, _+_}
 use native.Mathlib.Omega.{arith}
-use lib.ListN.{length, take, drop}
+use lib.ListN.{length, drop}
 use lib.IntN.{ℤ}
-use Rattle.format.specs.declared.Kind.the-variants.{LWOB}
 use Rattle.format.specs.declared.Fault.{Fault}
 use Rattle.format.specs.declared.Fault.the-variants.{SurfaceNumber}
-use Rattle.format.specs.Bytes.{between, absolute, signed, number}
+use Rattle.format.specs.Bytes.{between, absolute}
 use Rattle.format.specs.Limits.{lwobVertexLimit}
 use Rattle.format.specs.Items.{Verdict, fine, fault, Got, _then_, Reader, _>>=_, give, _or_unless_, u2, i2}
 use Rattle.format.specs.Mesh.{Polygon, FACE, PATCH}
 use Rattle.format.specs.Bodies.{lwobVertices, detailsAfter, face, patch}
-use Rattle.format.specs.Said.{got, itself, taking, Says, Keeps, ReadsAt, Sound, Put}
-use Rattle.format.proofs.Saying.{Met, met, exact, exactly, stopped, on, on-some, given, part}
-use Rattle.format.proofs.Places.{uint-whole, i2-whole}
-use Rattle.format.proofs.Sounding.{sound-not, sound-first, sound-next, sound-good}
+use Rattle.format.specs.Said.{got, itself, taking, each, Says, Keeps, ReadsAt, Sound, Put}
+use Rattle.format.proofs.Saying.{Met, met, exact, exactly, on, on-some, given}
+use Rattle.format.proofs.Sounding.{sound-first, sound-next, sound-good}
 use Rattle.wire.specs.declared.cursor.Cursor.{Cursor}
 use Rattle.wire.specs.declared.cursor.Sign.{Sign}
 use Rattle.wire.specs.Answers.{signOf}
-use Rattle.wire.proofs.Wholes.{uint-there}
-use Rattle.bodies.specs.Answers.{DetailsAt}
+use Rattle.bodies.specs.Answers.{detailsIf}
+use Rattle.bodies.proofs.Signs.{by-sign}
 use Rattle.fill.specs.declared.outline.Outlined.{Outlined}
 use Rattle.fill.specs.Polygons.{VerticesRoom, VerticesPut, EntryRoom, EntryPut, outline, OutlinePut}
 use Rattle.fill.proofs.Vertices.{above-length, vertices-counted}
 use Rattle.format.proofs.Verdicts.{same-fine, then-fine, chosen}
-use Rattle.fill.proofs.OnePolygon.{after-first, run-there, run-room, run-says}
+use Rattle.fill.proofs.Known.{never}
+use Rattle.fill.proofs.OnePolygon.{after-first, count-known, run-room, run-says}
 
 -- ---- what each starts with
 
@@ -47,28 +46,23 @@ module _ (kind : ℕ) where
       by (fault why p) q = absurd (let z : _≡_ {A = ℕ} 0 1 = cc in omega arith)
 
   module _ {points base : ℕ} {s : List ℕ} {at : ℕ} {words : List ℕ} {i : ℕ} {vertices : List ℕ} {m : ℕ} (r : EntryRoom (outline points kind) itself points base s at words i vertices m) where
-    pub outline-there : at + 2 ≤ length s
+    pub outline-counted : Sound (u2 at (drop at s))
     unfolding outline lwobVertices
-    outline-there = run-there itself (between 1 lwobVertexLimit) LWOB rest itself rest-keeps r
+    outline-counted = count-known itself (between 1 lwobVertexLimit) u2 rest itself rest-keeps r
 
     module _ {n next : ℕ} (w : ReadsAt u2 (taking 2) s at (got s n next)) where
-      pub outline-vertices : VerticesRoom LWOB n points base s next vertices m
+      pub outline-vertices : VerticesRoom u2 n points base s next vertices m
       unfolding outline lwobVertices
-      outline-vertices = run-room itself (between 1 lwobVertexLimit) LWOB rest itself rest-keeps r w
+      outline-vertices = run-room itself (between 1 lwobVertexLimit) u2 rest itself rest-keeps r w
 
-      module _ {vertices′ : List ℕ} {end : ℕ} (q : VerticesPut LWOB n points base s next vertices m vertices′ end) where
+      module _ {vertices′ : List ℕ} {end : ℕ} (q : VerticesPut u2 n points base s next vertices m vertices′ end) where
         run : Says (lwobVertices points) itself s at (got s (q .vertices) end)
         unfolding outline lwobVertices
-        run = run-says itself (between 1 lwobVertexLimit) LWOB rest itself rest-keeps r w (q .reads .says)
+        run = run-says itself (between 1 lwobVertexLimit) u2 rest itself rest-keeps r w (q .reads .says)
 
-        pub surface-there : end + 2 ≤ length s
-        unfolding outline i2
-        surface-there = uint-there s end 2 (omega arith) (sound-first _ _ end (drop end s) (sound-first _ _ end (drop end s) (sound-next _ _ run (r .sound))))
-
-        pub surface-read : {x : Sign} → x ≡ signOf (signed (number (take 2 (drop end s)))) → Keeps i2 signOf (taking 2) s end (got s x (end + 2))
-        surface-read is =
-            let z = i2-whole (uint-whole 2 surface-there refl) refl in
-            record { says = part (z .says) (λ y e. ap signOf e ∙ sym is); moves = z .moves }
+        pub surface-known : Sound (i2 end (drop end s))
+        unfolding outline
+        surface-known = sound-first _ _ end (drop end s) (sound-next _ _ run (r .sound))
 
         pub outline-put : {x : Sign} {last : Cursor} {words′ : List ℕ} → Keeps i2 signOf (taking 2) s end (got s x (last .at)) → Put words i (kind ∷ n ∷ x .number ∷ []) words′
             → OutlinePut points kind base s at words i words′ vertices m vertices′ (record { next = last; vertices = n; sign = x })
@@ -163,10 +157,10 @@ module _ (names : ℕ) {points base : ℕ} {s : List ℕ} {at : ℕ} {words : Li
       unfolding face
       details-sound = sound-first _ _ _ _ (sound-next _ _ number-good (sound-next _ _ (q .run) (r .sound)))
 
-      pub details-stop : {why : Fault} {p : ℕ} → DetailsAt points names (answer .sign) s (answer .next .at) (fault why p) → ⊥
-      details-stop d = sound-not details-sound (stopped (d .says (number-read .value) (number-read .shows)))
+      pub details-stop : {why : Fault} {p : ℕ} → Says (detailsIf (answer .sign .negative) points names) itself s (answer .next .at) (fault why p) → ⊥
+      details-stop d = never details-sound (by-sign points names (number-read .value) (number-read .shows) d)
 
-      pub face-put : {n next : ℕ} → DetailsAt points names (answer .sign) s (answer .next .at) (got s n next)
+      pub face-put : {n next : ℕ} → ReadsAt (detailsIf (answer .sign .negative) points names) (each 2) s (answer .next .at) (got s n next)
           → EntryPut (face points names) (λ f. f .0) base s at words i words′ vertices m vertices′ next (answer .vertices)
       unfolding face
       face-put {n} d =
@@ -174,7 +168,7 @@ module _ (names : ℕ) {points base : ℕ} {s : List ℕ} {at : ℕ} {words : Li
           let made : _≡_ {A = Polygon} (surfaced FACE (q .put .entry .vertices) z) (q .put .entry) = ap (λ y. record { kind = FACE; surface = y .number; vertices = q .put .entry .vertices }) (number-read .shows) ∙ sym (q .made) in
           record {
             entry = (q .put .entry, n);
-            reads = record { says = on _ (q .run) (on _ number-good (on _ (d .says z (number-read .shows)) (given (ap (λ p. (p, n)) made)))); moves = omega (arith, q .put .reads .moves, d .moves) };
+            reads = record { says = on _ (q .run) (on _ number-good (on _ (by-sign points names z (number-read .shows) (d .says)) (given (ap (λ p. (p, n)) made)))); moves = omega (arith, q .put .reads .moves, d .moves) };
             count = q .put .count;
             put-words = q .put .put-words;
             put-vertices = q .put .put-vertices;

@@ -1,6 +1,6 @@
 -- The tags of a body, put over the surface numbers of polygons that stand in a table. Assumes nothing.
 use mathlib.Core.Path.{_≡_, refl, sym, ap, _∙_}
-use mathlib.Core.Bool.{Bool, true, false}
+use mathlib.Core.Bool.{true, false}
 use mathlib.Core.List.{List, [], _∷_, _++_, foldl-append, append-assoc, append-nil}
 use Prim.Native.Nat.{ℕ, zero, suc, _+_, _*_, _≤_, _<_}
 use native.Mathlib.Omega.{arith}
@@ -8,7 +8,6 @@ use lib.ListN.{length, take, drop, set, length-append, length-take, length-set}
 use lib.Seq.{set-append-left}
 use lib.Dec.{ltb}
 use borrow.Author.Tests.{ltb-true}
-use Rattle.format.specs.declared.Fault.{Fault}
 use Rattle.format.specs.declared.Fault.the-variants.{ItemCut, PolygonNumber, SurfaceNumber}
 use Rattle.format.specs.Bytes.{_is_, joined, number}
 use Rattle.format.specs.Items.{fine, fault, _then_, Reader, _>>=_, _or_unless_, whole, u2, u4, vx}
@@ -18,12 +17,11 @@ use Rattle.format.specs.Bodies.{Part, tagging, pair, taggingBody}
 use Rattle.format.specs.Rules.{retag, tagged}
 use Rattle.format.specs.Said.{Put, Says, ReadsAt, JudgedAt, Sound, keep, itself, taking, got}
 use Rattle.format.proofs.Saying.{on, given, exact, exactly, was-good, used-up}
-use Rattle.format.proofs.Places.{uint-whole}
 use Rattle.format.proofs.Entries.{Manying, many-begin, many-turn, many-end}
-use Rattle.format.proofs.Sounding.{sound-then, sound-not, sound-first, sound-next, sound-good, sound-whole, many-sound}
-use Rattle.wire.proofs.Wholes.{uint-there}
+use Rattle.format.proofs.Sounding.{sound-first, sound-next, sound-good, sound-whole, many-sound}
 use Rattle.bodies.specs.Answers.{pairsOf}
 use Rattle.fill.specs.Taggings.{wordsOf, TagsRoom, TagsPut}
+use Rattle.fill.proofs.Known.{never, sound-item}
 
 -- ---- a store amongst words that were put
 
@@ -72,12 +70,6 @@ put-tag qs ts p n w h room =
     let z : length (wordsOf now) ≡ length now * 3 = words-size now in
     let e : tagged qs (ts ++ ((p, n) ∷ [])) ≡ retag p n now = foldl-append (λ now t. retag (t .0) (t .1) now) qs ts ((p, n) ∷ []) in
     rw (e, ← retag-words p n now (omega (arith, l))) (put-over w (p * 3 + 2) n (omega (arith, l, z)) (omega (arith, l, z)))
-
--- ---- what is fine
-
-pub sound-item : {A : Type 0} (r : Reader A) (why : Fault) (ok : A → Bool) (at : ℕ) (t : List ℕ) → Sound ((r or why unless ok) at t) → Sound (r at t)
-unfolding _or_unless_
-sound-item r why ok at t w = sound-then (r at t) _ w .0
 
 -- a body is judged to hold one thing only
 held : {header at : ℕ} {r : Reader Part} {s : List ℕ} {ts us : List (ℕ × ℕ)} → JudgedAt header at r itself s (fine (tagging ts)) → whole header r at (drop at s) ≡ fine (tagging us) → ts ≡ us
@@ -129,22 +121,22 @@ module _ {s : List ℕ} {from polygons names : ℕ} {table₀ : List ℕ} {i at 
       unfolding pair
       tag-sound = sound-first _ _ next (drop next s) (sound-next _ _ polygon-says pair-sound)
 
-      pub tag-inside : next + 2 ≤ length s
-      tag-inside = uint-there s next 2 (omega arith) (sound-item u2 SurfaceNumber (λ t. ltb t names) next (drop next s) tag-sound)
+      pub tag-known : Sound (u2 next (drop next s))
+      tag-known = sound-item u2 SurfaceNumber (λ t. ltb t names) next (drop next s) tag-sound
 
-      module _ {t : ℕ} (read : t ≡ number (take 2 (drop next s))) where
-        pair-says : Says (pair polygons names) itself s at (got s (p, suc t) (next + 2))
+      module _ {t last : ℕ} (v : ReadsAt u2 (taking 2) s next (got s t last)) where
+        pair-says : Says (pair polygons names) itself s at (got s (p, suc t) last)
         unfolding pair
-        pair-says = on _ polygon-says (on _ (sound-good SurfaceNumber (λ t. ltb t names) (uint-whole 2 tag-inside read .says) tag-sound) (given refl))
+        pair-says = on _ polygon-says (on _ (sound-good SurfaceNumber (λ t. ltb t names) (v .says) tag-sound) (given refl))
 
-        pub tags-turn : Retagging s from polygons names table₀ i (next + 2) (set table (i + (p * 3 + 2)) (t + 1))
+        pub tags-turn : Retagging s from polygons names table₀ i last (set table (i + (p * 3 + 2)) (t + 1))
         tags-turn =
             let e : t + 1 ≡ suc t = omega arith in
             rw e
             (record {
               room = f .room;
               done = f .done ++ ((p, suc t) ∷ []);
-              rest = many-turn (f .rest) some pair-says (omega (arith, w .moves)) (λ x xs same. rw same (ap tagging (sym (append-assoc (f .done) ((p, suc t) ∷ []) xs))));
+              rest = many-turn (f .rest) some pair-says (omega (arith, w .moves, v .moves)) (λ x xs same. rw same (ap tagging (sym (append-assoc (f .done) ((p, suc t) ∷ []) xs))));
               kept = length-set table (i + (p * 3 + 2)) (suc t) ∙ f .kept;
               put = λ qs l h. put-tag qs (f .done) p (suc t) (f .put qs l h) (omega (arith, l, known)) (omega (arith, l, f .room .fits));
             })
@@ -161,7 +153,7 @@ module _ (polygons names : ℕ) {s : List ℕ} where
   unfolding taggingBody
   type-never-cut r w =
       let u = sound-whole (taggingBody polygons names) 0 8 (drop 8 s) (record { value = tagging (r .listed); is = r .sound }) in
-      sound-not (sound-first u4 _ 8 (drop 8 s) (record { value = u .got; is = u .is })) (exactly (w .says))
+      never (sound-first u4 _ 8 (drop 8 s) (record { value = u .got; is = u .is })) (w .says)
 
   module _ {t next : ℕ} (w : ReadsAt u4 (taking 4) s 8 (got s t next)) where
     pub of-surfaces : t is "SURF" ≡ true → whole 0 (taggingBody polygons names) 8 (drop 8 s) ≡ whole 0 (pairsOf polygons names) next (drop next s)

@@ -6,38 +6,34 @@ use native.Mathlib.Omega.{arith}
 use lib.Dec.{ltb}
 use lib.ListN.{length, drop, set, length-append, length-map, length-set}
 use borrow.Author.Tests.{ltb-true}
-use Rattle.format.specs.declared.Kind.{Kind}
 use Rattle.format.specs.declared.Fault.{Fault}
 use Rattle.format.specs.declared.Fault.the-variants.{VertexNumber}
-use Rattle.format.specs.Items.{Verdict, fine, fault, Got, times}
+use Rattle.format.specs.Items.{Verdict, fine, fault, Got, Reader, times}
 use Rattle.format.specs.Bodies.{vertex}
 use Rattle.format.specs.Said.{got, itself, keep, taking, Says, ReadsAt, Sound, Put}
-use Rattle.format.proofs.Saying.{exact, exactly, stopped, was-good}
+use Rattle.format.proofs.Saying.{exact, exactly, was-good}
 use Rattle.format.proofs.Entries.{Timing, times-begin, times-turn, times-stop, times-end, times-length}
-use Rattle.format.proofs.Sounding.{sound-not, sound-good}
+use Rattle.format.proofs.Sounding.{sound-good}
 use Rattle.format.proofs.Puts.{put-none, put-snoc}
-use Rattle.wire.specs.declared.whole.Whole.{Whole}
-use Rattle.wire.specs.Whole.{WholeAt}
-use Rattle.bodies.specs.Answers.{index}
 use Rattle.fill.specs.Polygons.{above, VerticesRoom, VerticesPut}
-use Rattle.fill.proofs.Tags.{sound-item}
+use Rattle.fill.proofs.Known.{never, sound-item}
 
 pub above-length : (base : ℕ) (vs : List ℕ) → length (above base vs) ≡ length vs
 above-length base vs = length-map vs (λ v. base + v)
 
 -- the first i of the n vertices are put, and those that follow are read from here on
-pub record VerticesFilling (kind : Kind) (n points base : ℕ) (s : List ℕ) (from : ℕ) (table₀ : List ℕ) (m : ℕ) (table : List ℕ) (at i : ℕ) : Type 0 where
-  pub room : VerticesRoom kind n points base s from table₀ m
+pub record VerticesFilling (item : Reader ℕ) (n points base : ℕ) (s : List ℕ) (from : ℕ) (table₀ : List ℕ) (m : ℕ) (table : List ℕ) (at i : ℕ) : Type 0 where
+  pub room : VerticesRoom item n points base s from table₀ m
   pub few : i ≤ n
   pub far : from + i * 2 ≤ at
   pub done : List ℕ
   pub count : length done ≡ i
   pub kept : length table ≡ length table₀
   pub put : Put table₀ m (above base done) table
-  pub rest : Timing (keep itself (times n (vertex (index kind) points) from (drop from s))) (vertex (index kind) points) s at (n - i) (λ vs. done ++ vs)
+  pub rest : Timing (keep itself (times n (vertex item points) from (drop from s))) (vertex item points) s at (n - i) (λ vs. done ++ vs)
 
-module _ {kind : Kind} {n points base : ℕ} {s : List ℕ} {from : ℕ} {table₀ : List ℕ} {m : ℕ} where
-  pub vertices-begin : VerticesRoom kind n points base s from table₀ m → VerticesFilling kind n points base s from table₀ m table₀ from 0
+module _ {item : Reader ℕ} {n points base : ℕ} {s : List ℕ} {from : ℕ} {table₀ : List ℕ} {m : ℕ} where
+  pub vertices-begin : VerticesRoom item n points base s from table₀ m → VerticesFilling item n points base s from table₀ m table₀ from 0
   vertices-begin r =
       let all : n - 0 ≡ n = omega arith in
       record {
@@ -52,11 +48,11 @@ module _ {kind : Kind} {n points base : ℕ} {s : List ℕ} {from : ℕ} {table�
       }
 
   -- there are as many as were asked for
-  pub vertices-counted : {table′ : List ℕ} {next : ℕ} (p : VerticesPut kind n points base s from table₀ m table′ next) → length (p .vertices) ≡ n
-  vertices-counted p = times-length (vertex (index kind) points) n from (drop from s) _ (exactly (p .reads .says))
+  pub vertices-counted : {table′ : List ℕ} {next : ℕ} (p : VerticesPut item n points base s from table₀ m table′ next) → length (p .vertices) ≡ n
+  vertices-counted p = times-length (vertex item points) n from (drop from s) _ (exactly (p .reads .says))
 
-  module _ {table : List ℕ} {at i : ℕ} (f : VerticesFilling kind n points base s from table₀ m table at i) where
-    pub vertices-end : n ≤ i → VerticesPut kind n points base s from table₀ m table at
+  module _ {table : List ℕ} {at i : ℕ} (f : VerticesFilling item n points base s from table₀ m table at i) where
+    pub vertices-end : n ≤ i → VerticesPut item n points base s from table₀ m table at
     vertices-end h =
         let none : n - i ≤ 0 = omega arith in
         record {
@@ -69,33 +65,32 @@ module _ {kind : Kind} {n points base : ℕ} {s : List ℕ} {from : ℕ} {table�
       left : 0 < n - i
       left = omega arith
 
-      never-stopped : {why : Fault} {p : ℕ} → Says (vertex (index kind) points) itself s at (fault why p) → ⊥
-      never-stopped w = sound-not (f .room .sound) (stopped {r = times n (vertex (index kind) points)} {h = itself} (record { is = times-stop (f .rest) left w }))
+      never-stopped : {why : Fault} {p : ℕ} → Says (vertex item points) itself s at (fault why p) → ⊥
+      never-stopped w = never {r = times n (vertex item points)} {h = itself} (f .room .sound) (record { is = times-stop (f .rest) left w })
 
-      vertex-sound : Sound (vertex (index kind) points at (drop at s))
-      vertex-sound = by (vertex (index kind) points at (drop at s)) refl
+      vertex-sound : Sound (vertex item points at (drop at s))
+      vertex-sound = by (vertex item points at (drop at s)) refl
         where
-          by : (v : Verdict (Got ℕ)) → vertex (index kind) points at (drop at s) ≡ v → Sound (vertex (index kind) points at (drop at s))
+          by : (v : Verdict (Got ℕ)) → vertex item points at (drop at s) ≡ v → Sound (vertex item points at (drop at s))
           by (fine g) e = record { value = g; is = e }
           by (fault why p) e = absurd (never-stopped (exact (sym e)))
 
-      pub index-known : Sound (index kind at (drop at s))
-      index-known = sound-item (index kind) VertexNumber (λ v. ltb v points) at (drop at s) vertex-sound
+      pub item-known : Sound (item at (drop at s))
+      item-known = sound-item item VertexNumber (λ v. ltb v points) at (drop at s) vertex-sound
 
       pub place-fits : m + i < length table
       place-fits = omega (arith, f .kept, f .room .room)
 
-      module _ {x : Whole} (r : WholeAt (index kind) s at x) where
-        w : ReadsAt (vertex (index kind) points) (taking 2) s at (got s (x .number) (x .next))
-        w = record { says = sound-good VertexNumber (λ v. ltb v points) (r .reads .says) vertex-sound; moves = r .reads .moves }
+      module _ {v next : ℕ} (r : ReadsAt item (taking 2) s at (got s v next)) where
+        w : ReadsAt (vertex item points) (taking 2) s at (got s v next)
+        w = record { says = sound-good VertexNumber (λ v. ltb v points) (r .says) vertex-sound; moves = r .moves }
 
-        pub vertex-fits : base + x .number < 2 ^ 32
-        vertex-fits = omega (arith, ltb-true (x .number) points (was-good _ _ _ (w .says)), f .room .small)
+        pub vertex-fits : base + v < 2 ^ 32
+        vertex-fits = omega (arith, ltb-true v points (was-good _ _ _ (w .says)), f .room .small)
 
-        pub vertices-turn : VerticesFilling kind n points base s from table₀ m (set table (m + i) (base + x .number)) (x .next) (i + 1)
+        pub vertices-turn : VerticesFilling item n points base s from table₀ m (set table (m + i) (base + v)) next (i + 1)
         vertices-turn =
             let one : n - i - 1 ≡ n - (i + 1) = omega arith in
-            let v = x .number in
             let same : (y : ℕ) (ys : List ℕ) → y ≡ v → f .done ++ (y ∷ ys) ≡ f .done ++ (v ∷ []) ++ ys = λ y ys e. rw e (sym (append-assoc (f .done) (v ∷ []) ys)) in
             let place : m + length (above base (f .done)) ≡ m + i = ap (λ k. m + k) (above-length base (f .done) ∙ f .count) in
             record {

@@ -18,7 +18,7 @@ use Rattle.format.specs.Bodies.{points, point, wholePoints, pointsBody}
 use Rattle.format.specs.Said.{Put}
 use Rattle.format.proofs.Verdicts.{then-fine, chosen}
 use Rattle.format.proofs.Puts.{put-none, put-snoc}
-use Rattle.fill.specs.Puts.{PointsPut}
+use Rattle.fill.specs.Puts.{PointsRoom, PointsPut}
 
 -- n words of four bytes
 unfoldable pub words : ℕ → List ℕ → List ℕ
@@ -155,6 +155,9 @@ bodied kind body ps e =
 
 pub points-length : (kind : Kind) (body : List ℕ) (ps : List Point) → whole 0 (pointsBody kind) 8 body ≡ fine (points ps) → length (joined (map pointWords ps)) ≡ length body / 4
 points-length kind body ps e = rw (bodied kind body ps e .are) (length-words (length body / 4) body)
+
+pub words-fit : {s table : List ℕ} {m : ℕ} → PointsRoom s table m → m + (length s - 8) / 4 ≤ length table
+words-fit {s} r = omega (arith, r .fits, points-length (r .kind) (drop 8 s) (r .listed) (r .sound), length-drop 8 s)
 
 -- ---- the loop that puts the words
 

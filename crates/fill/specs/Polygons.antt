@@ -3,7 +3,6 @@ use Prim.Native.Nat.{ℕ, _+_, _*_, _^_, _≤_}
 use mathlib.Core.Path.{_≡_}
 use mathlib.Core.List.{List, map}
 use lib.ListN.{length, drop}
-use Rattle.format.specs.declared.Kind.{Kind}
 use Rattle.format.specs.Bytes.{absolute, sum, joined}
 use Rattle.format.specs.Items.{fine, Reader, _>>=_, give, times, i2, whole}
 use Rattle.format.specs.Mesh.{Polygon, polygonWords, polygonSize}
@@ -12,7 +11,7 @@ use Rattle.format.specs.Rules.{from}
 use Rattle.format.specs.Said.{got, itself, taking, Says, Keeps, ReadsAt, Sound, Put}
 use Rattle.wire.specs.Answers.{signOf}
 use Rattle.bodies.specs.declared.entries.Layout.{Layout}
-use Rattle.bodies.specs.Answers.{index, EntryOf}
+use Rattle.bodies.specs.Answers.{EntryOf}
 use Rattle.fill.specs.declared.entries.Ends.{Ends}
 use Rattle.fill.specs.declared.outline.Outlined.{Outlined}
 
@@ -22,16 +21,16 @@ use Rattle.fill.specs.declared.outline.Outlined.{Outlined}
 abbrev pub above : (base : ℕ) → List ℕ → List ℕ
 above base vs = map (λ v. base + v) vs
 
--- the n vertices at a place are fine, and the table has room for them
-pub record VerticesRoom (kind : Kind) (n points base : ℕ) (s : List ℕ) (at : ℕ) (table : List ℕ) (m : ℕ) : Type 0 where
-  pub sound : Sound (times n (vertex (index kind) points) at (drop at s))
+-- the n vertices at a place, an item each, are fine, and the table has room for them
+pub record VerticesRoom (item : Reader ℕ) (n points base : ℕ) (s : List ℕ) (at : ℕ) (table : List ℕ) (m : ℕ) : Type 0 where
+  pub sound : Sound (times n (vertex item points) at (drop at s))
   pub room : m + n ≤ length table
   pub small : base + points ≤ 2 ^ 32
 
 -- they are read up to the place `next`, and stand in the table from the index m on
-pub record VerticesPut (kind : Kind) (n points base : ℕ) (s : List ℕ) (at : ℕ) (table : List ℕ) (m : ℕ) (table′ : List ℕ) (next : ℕ) : Type 0 where
+pub record VerticesPut (item : Reader ℕ) (n points base : ℕ) (s : List ℕ) (at : ℕ) (table : List ℕ) (m : ℕ) (table′ : List ℕ) (next : ℕ) : Type 0 where
   pub vertices : List ℕ
-  pub reads : ReadsAt (times n (vertex (index kind) points)) (taking (n * 2)) s at (got s vertices next)
+  pub reads : ReadsAt (times n (vertex item points)) (taking (n * 2)) s at (got s vertices next)
   pub put : Put table m (above base vertices) table′
 
 -- ---- one polygon
@@ -93,6 +92,6 @@ pub record Standing (base : ℕ) (ps : List Polygon) (words : List ℕ) (i : ℕ
   pub words-end : ends .polygons ≡ i + length ps * polygonSize
   pub vertices-end : ends .vertices ≡ m + vertexCount ps
 
--- they do, whatever polygons the rule book says that the body holds
+-- they do, whatever polygons the specification says that the body holds
 pub record PolygonsPut (body : Reader Part) (base : ℕ) (s : List ℕ) (start : ℕ) (words : List ℕ) (i : ℕ) (words′ vertices : List ℕ) (m : ℕ) (vertices′ : List ℕ) (ends : Ends) : Type 0 where
   pub put : (ps : List Polygon) (n : ℕ) → whole 0 body start (drop start s) ≡ fine (polygons ps n) → Standing base ps words i words′ vertices m vertices′ ends

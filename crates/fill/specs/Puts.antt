@@ -12,6 +12,13 @@ use Rattle.format.specs.Said.{Put}
 
 -- ---- points
 
+-- the body is fine in a file of some kind, and the table has room for its points
+pub record PointsRoom (s table : List ℕ) (m : ℕ) : Type 0 where
+  pub kind : Kind
+  pub listed : List Point
+  pub sound : whole 0 (pointsBody kind) 8 (drop 8 s) ≡ fine (points listed)
+  pub fits : m + length (joined (map pointWords listed)) ≤ length table
+
 -- the points of the body, whatever the kind of file, stand in the table from the index m on
 pub record PointsPut (s table : List ℕ) (m : ℕ) (table′ : List ℕ) : Type 0 where
   pub put : (kind : Kind) (ps : List Point) → whole 0 (pointsBody kind) 8 (drop 8 s) ≡ fine (points ps) → Put table m (joined (map pointWords ps)) table′

@@ -1,4 +1,4 @@
--- What the tags of a body that is fine change in the table of polygons. `v` is what the rule book says of the body.
+-- What the tags of a body that is fine change in the table of polygons. `v` is what the specification says of the body.
 use Prim.Native.Nat.{ℕ, _+_, _*_, _≤_}
 use mathlib.Core.Path.{_≡_}
 use mathlib.Core.List.{List, map}

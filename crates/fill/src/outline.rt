@@ -1,26 +1,21 @@
 // The polygons of an LWOB file into the tables of polygons and of vertices.
 ghost use mathlib.Core.Path.{_≡_};
-ghost use Prim.Native.Nat.{_+_, _≤_};
-ghost use lib.ListN.{length, take, drop};
-ghost use Rattle.format.specs.Bytes.{number, signed};
+ghost use mathlib.Core.Bool.{false};
+ghost use Rattle.format.specs.Items.{u2};
 ghost use Rattle.format.specs.Bodies.{face, patch, facesBody, patchesBody};
 ghost use Rattle.format.specs.Said.{itself};
-ghost use Rattle.wire.specs.Answers.{signOf};
-ghost use Rattle.fill.specs.Polygons.{EntryRoom, EntryPut, outline, OutlinePut, PolygonsRoom, PolygonsPut};
+ghost use Rattle.fill.specs.Polygons.{VerticesRoom, VerticesPut, EntryRoom, EntryPut, outline, OutlinePut, PolygonsRoom, PolygonsPut};
 use crate::entries::Ends;
 use crate::entries::put_entries;
 use crate::polygons::Moved;
-use crate::polygons::put_vertices;
 use crate::polygons::put_words;
 use bodies::entries::Layout;
 use bodies::faces::details_after;
-use format::Kind;
 use wire::Run;
 use wire::cursor::Cursor;
+use wire::cursor::Number;
 use wire::cursor::Sign;
-use wire::cursor::pair;
-use wire::cursor::sign_of;
-use wire::cursor::signed16;
+use wire::cursor::Signs;
 
 // What was put: the cursor after the surface number, how many vertices there are, and that number.
 pub struct Outlined {
@@ -29,12 +24,45 @@ pub struct Outlined {
     pub sign: Sign,
 }
 
-// The surface number at a place. It was judged not to be cut.
-fn surface_at(s: &[u8], at: usize) -> Sign
-    requires { ⌜ at + 2 ≤ length (now s) ⌝ }
-    ensures { λ r. ⌜ r ≡ signOf (signed (number (take 2 (drop at (now (s .entry)))))) ⌝ }
+// The n vertices at a cursor, two bytes each, into the table from the index m on, each counted from the file's first point. They were judged to be fine, so
+// that none is cut. The answer is the cursor after them.
+fn put_u2_vertices(
+    s: &[u8],
+    from: Cursor,
+    n: usize,
+    points: usize,
+    base: u32,
+    table: &mut [u32],
+    m: usize,
+) -> Cursor
+    requires { ⌜ VerticesRoom u2 n points base (now s) (from .at) (now table) m ⌝ }
+    ensures { λ r. ⌜ VerticesPut u2 n points base (now (s .entry)) (from .at) (now (table .entry)) m (now (table .exit)) (r .at) ⌝ }
 {
-    sign_of(signed16(pair(s, at)))
+    let mut c = from;
+    let mut i = 0;
+    while i < n {
+        let Number::Got(v, next) = c.u2(s) else {
+            return c;
+        };
+        table[m + i] = base + v;
+        c = next;
+        i += 1;
+    }
+    c
+}
+
+// What is answered where an item is cut. A body that was judged fine does not come to it.
+fn unread(c: Cursor) -> Outlined
+    ensures { λ r. ⌜ r ≡ record { next = c; vertices = 0; sign = record { number = 0; negative = false } } ⌝ }
+{
+    Outlined {
+        next: c,
+        vertices: 0,
+        sign: Sign {
+            number: 0,
+            negative: false,
+        },
+    }
 }
 
 // What every polygon of an LWOB file starts with. A negative surface number tells of details, and the surface is its absolute value.
@@ -52,15 +80,16 @@ fn put_outline(
     requires { ⌜ EntryRoom (outline points kind) itself points base (now s) (c .at) (now polygons) i (now vertices) m ⌝ }
     ensures { λ r. ⌜ OutlinePut points kind base (now (s .entry)) (c .at) (now (polygons .entry)) i (now (polygons .exit)) (now (vertices .entry)) m (now (vertices .exit)) r ⌝ }
 {
-    let at = c.at;
-    let n = pair(s, at) as u32;
-    let first = Cursor { at: at + 2 };
-    let after = put_vertices(s, first, n as usize, Kind::LWOB, points, base, vertices, m);
-    let end = after.at;
-    let sign = surface_at(s, end);
+    let Number::Got(n, first) = c.u2(s) else {
+        return unread(c);
+    };
+    let after = put_u2_vertices(s, first, n as usize, points, base, vertices, m);
+    let Signs::Got(sign, next) = after.sign(s) else {
+        return unread(c);
+    };
     put_words(polygons, i, kind, n, sign.number);
     Outlined {
-        next: Cursor { at: end + 2 },
+        next,
         vertices: n as usize,
         sign,
     }
@@ -106,9 +135,9 @@ pub fn put_face(
 {
     let put = put_outline(s, c, 1, points, base, polygons, i, vertices, m);
     let after = put.next;
-    let sign = put.sign;
+    let negative = put.sign.negative;
     let many = put.vertices;
-    match details_after(s, after, sign, points, names) {
+    match details_after(s, after, negative, points, names) {
         Run::Stop(_) => Moved {
             next: after,
             vertices: many,

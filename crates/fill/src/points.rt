@@ -1,14 +1,12 @@
 // The points of a PNTS body into the table of points.
-ghost use Prim.Native.Nat.{_+_, _-_, _/_, _≤_};
-ghost use lib.ListN.{length};
-ghost use Rattle.fill.specs.Puts.{PointsPut};
+ghost use Rattle.fill.specs.Puts.{PointsRoom, PointsPut};
 use wire::cursor::left;
 use wire::cursor::word;
 
 // Three words a point, in file order, from the index m on. A float is put as it stands, so that its bits stay what they are. The body was judged to hold
 // whole points, so that each turn puts one of them.
 pub fn put_points(s: &[u8], table: &mut [u32], m: usize)
-    requires { ⌜ m + (length (now s) - 8) / 4 ≤ length (now table) ⌝ }
+    requires { ⌜ PointsRoom (now s) (now table) m ⌝ }
     ensures { λ _. ⌜ PointsPut (now (s .entry)) (now (table .entry)) m (now (table .exit)) ⌝ }
 {
     let n = left(s, 8) / 4;

@@ -2,6 +2,7 @@
 ghost use Prim.Native.Nat.{_+_, _≤_};
 ghost use mathlib.Core.List.{[], _∷_};
 ghost use lib.ListN.{length};
+ghost use Rattle.format.specs.Items.{vx};
 ghost use Rattle.format.specs.Mesh.{polygonSize};
 ghost use Rattle.format.specs.Bodies.{polygon, polygonsBody};
 ghost use Rattle.format.specs.Said.{itself, Put};
@@ -10,11 +11,9 @@ use crate::entries::Ends;
 use crate::entries::put_entries;
 use bodies::entries::Layout;
 use bodies::polygons::polygon_kind;
-use bodies::vertices::index_at;
-use format::Kind;
 use wire::cursor::Cursor;
+use wire::cursor::Item;
 use wire::cursor::Number;
-use wire::cursor::pair;
 
 // A polygon that was put: the cursor after it, and how many vertices it has.
 pub struct Moved {
@@ -22,31 +21,31 @@ pub struct Moved {
     pub vertices: usize,
 }
 
-// The n vertices at a cursor into the table from the index m on, each counted from the file's first point. They were judged to be fine, so that none is judged
-// here. The answer is the cursor after them.
-pub fn put_vertices(
+// The n vertices at a cursor, a VX each, into the table from the index m on, each counted from the file's first point. They were judged to be fine, so that none
+// is cut. The answer is the cursor after them.
+fn put_vx_vertices(
     s: &[u8],
     from: Cursor,
     n: usize,
-    kind: Kind,
     points: usize,
     base: u32,
     table: &mut [u32],
     m: usize,
 ) -> Cursor
-    requires { ⌜ VerticesRoom kind n points base (now s) (from .at) (now table) m ⌝ }
-    ensures { λ r. ⌜ VerticesPut kind n points base (now (s .entry)) (from .at) (now (table .entry)) m (now (table .exit)) (r .at) ⌝ }
+    requires { ⌜ VerticesRoom vx n points base (now s) (from .at) (now table) m ⌝ }
+    ensures { λ r. ⌜ VerticesPut vx n points base (now (s .entry)) (from .at) (now (table .entry)) m (now (table .exit)) (r .at) ⌝ }
 {
-    let mut at = from.at;
+    let mut c = from;
     let mut i = 0;
     while i < n {
-        let index = index_at(s, at, kind);
-        let v = index.number;
+        let Item::Got(v, next) = c.vx(s) else {
+            return c;
+        };
         table[m + i] = base + v;
-        at = index.next;
+        c = next;
         i += 1;
     }
-    Cursor { at }
+    c
 }
 
 // The three words of a polygon into the table from the index i on.
@@ -74,20 +73,15 @@ pub fn put_polygon(
     requires { ⌜ EntryRoom (polygon points kind) itself points base (now s) (c .at) (now polygons) i (now vertices) m ⌝ }
     ensures { λ r. ⌜ EntryPut (polygon points kind) itself base (now (s .entry)) (c .at) (now (polygons .entry)) i (now (polygons .exit)) (now (vertices .entry)) m (now (vertices .exit)) (r .next .at) (r .vertices) ⌝ }
 {
-    let at = c.at;
-    let n = pair(s, at) as u32;
+    let Number::Got(n, first) = c.u2(s) else {
+        return Moved {
+            next: c,
+            vertices: 0,
+        };
+    };
     let count = n % 1024;
     put_words(polygons, i, kind, count, 0);
-    let next = put_vertices(
-        s,
-        Cursor { at: at + 2 },
-        count as usize,
-        Kind::LWO2,
-        points,
-        base,
-        vertices,
-        m,
-    );
+    let next = put_vx_vertices(s, first, count as usize, points, base, vertices, m);
     Moved {
         next,
         vertices: count as usize,

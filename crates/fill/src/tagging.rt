@@ -5,9 +5,8 @@ ghost use Rattle.format.specs.Bodies.{taggingBody};
 ghost use Rattle.bodies.specs.Answers.{pairsOf};
 ghost use Rattle.fill.specs.Taggings.{TagsRoom, TagsPut};
 use wire::cursor::Cursor;
+use wire::cursor::Item;
 use wire::cursor::Number;
-use wire::cursor::pair;
-use wire::whole::vx_at;
 
 const SURF: u32 = 0x5355_5246;
 
@@ -19,13 +18,15 @@ fn put_pairs(s: &[u8], from: Cursor, polygons: usize, names: usize, table: &mut 
 {
     let mut at = from.at;
     while at < s.len() {
-        let index = vx_at(s, at);
-        let p = index.number;
-        let after = index.next;
-        // Two bytes, so that the number above it fits.
-        let tag = pair(s, after) as u32;
+        let c = Cursor { at };
+        let Item::Got(p, after) = c.vx(s) else {
+            return;
+        };
+        let Number::Got(tag, next) = after.u2(s) else {
+            return;
+        };
         table[i + (p as usize * 3 + 2)] = tag + 1;
-        at = after + 2;
+        at = next.at;
     }
 }
 

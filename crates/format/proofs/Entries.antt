@@ -131,8 +131,3 @@ module _ {A B : Type 0} {goal : Verdict (Got B)} {r : Reader A} {s : List ℕ} {
 
       pub many-stop : {why : Fault} {p : ℕ} → Says r h s at (fault why p) → fault why p ≡ goal
       many-stop w = sym (t .rest ∙ rw once (halt f (upTo (t .fuel - 1) r) w))
-
--- where the entries alone are kept
-pub many-start : {A B : Type 0} {r : Reader A} {s : List ℕ} {at : ℕ} (f : List A → B) → Manying (keep f (many r at (drop at s))) r s at f
-unfolding many
-many-start {s = s} {at = at} f = record { fuel = length (drop at s); enough = rw length-drop (omega arith); rest = refl }

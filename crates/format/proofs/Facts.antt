@@ -1,13 +1,14 @@
 -- Facts about tests and about joined lists. Assumes nothing.
-use Prim.Native.Nat.{ℕ, zero, suc, _*_, _≤_}
+use Prim.Native.Nat.{ℕ, zero, suc, _*_, _/_, _%_, _^_, _≤_, _<_}
 use mathlib.Core.Path.{_≡_, refl, sym, ap, _∙_}
 use mathlib.Core.List.{List, [], _∷_, _++_, map, map-append}
-use mathlib.Core.Bool.{Bool, true, false, _&&_, false≢true, and-eq-true-iff}
+use mathlib.Core.Bool.{Bool, true, false, not, _&&_, false≢true, and-eq-true-iff}
+use mathlib.Core.Logic.{_≢_}
 use native.Mathlib.Omega.{arith}
-use lib.Dec.{leb}
+use lib.Dec.{leb, ltb, eqb}
 use lib.ListN.{length, take, drop, getD, length-append, take-append-drop}
-use borrow.Author.Tests.{leb-true}
-use Rattle.format.specs.Bytes.{between, every, all, sum, joined}
+use borrow.Author.Tests.{leb-true, ltb-true, lt-ltb, eqb-false, not-true}
+use Rattle.format.specs.Bytes.{byte, between, finite, every, all, sum, joined}
 use Rattle.format.proofs.Puts.{joined-append}
 
 -- from two constructors that are told to be equal, `cc` proves this equation, and anything follows from it
@@ -50,6 +51,11 @@ unfolding all
 all-append p [] ys e = (refl, e)
 all-append p (x ∷ xs) ys e = let later = all-append p xs ys (all-rest p x (xs ++ ys) e) in (rw (all-first p x (xs ++ ys) e) (later .0), later .1)
 
+pub all-append-true : {A : Type 0} (p : A → Bool) (xs ys : List A) → all p xs ≡ true → all p ys ≡ true → all p (xs ++ ys) ≡ true
+unfolding all
+all-append-true p [] ys e₁ e₂ = e₂
+all-append-true p (x ∷ xs) ys e₁ e₂ = rw (all-first p x xs e₁) (all-append-true p xs ys (all-rest p x xs e₁) e₂)
+
 pub all-drop : {A : Type 0} (p : A → Bool) (xs : List A) (i : ℕ) → all p xs ≡ true → all p (drop i xs) ≡ true
 all-drop p xs i e = all-append p (take i xs) (drop i xs) (rw take-append-drop e) .1
 
@@ -57,8 +63,23 @@ all-drop p xs i e = all-append p (take i xs) (drop i xs) (rw take-append-drop e)
 pub all-part : {A : Type 0} (p : A → Bool) (xs : List A) (i n : ℕ) → all p xs ≡ true → all p (take n (drop i xs)) ≡ true
 all-part p xs i n e = all-append p (take n (drop i xs)) (drop n (drop i xs)) (rw take-append-drop (all-drop p xs i e)) .0
 
+-- a list of numbers below 256 is bytes
+pub all-bytes : (s : List ℕ) → ((i : ℕ) → getD s i 0 < 256) → all byte s ≡ true
+unfolding all
+all-bytes [] few = refl
+all-bytes (b ∷ s) few = rw (lt-ltb b 256 (few 0)) (all-bytes s (λ i. few (suc i)))
+
 pub between-true : (least most n : ℕ) → between least most n ≡ true → (least ≤ n) × (n ≤ most)
 between-true least most n e = let both = and-eq-true-iff (leb least n) (leb n most) .0 e in (leb-true least n (both .0), leb-true n most (both .1))
+
+-- ---- floats
+
+-- a finite f32 has 32 bits, and its exponent is not all ones
+pub finite-bits : (bits : ℕ) → finite bits ≡ true → (bits < 2 ^ 32) × (bits / 2 ^ 23 % 256 ≢ 255)
+unfolding finite
+finite-bits bits e =
+    let both = and-eq-true-iff (ltb bits (2 ^ 32)) (not (eqb (bits / 2 ^ 23 % 256) 255)) .0 e in
+    (ltb-true bits (2 ^ 32) (both .0), eqb-false _ _ (not-true _ (both .1)))
 
 -- ---- joined lists
 
@@ -67,10 +88,17 @@ unfolding joined
 length-entries n f long [] = omega arith
 length-entries n f long (x ∷ xs) = length-append (f x) (joined (map f xs)) ∙ omega (arith, long x, length-entries n f long xs)
 
+-- joined lists are as long as they are together
 pub length-joined : {A : Type 0} (xss : List (List A)) → sum (map length xss) ≡ length (joined xss)
 unfolding joined sum
 length-joined [] = refl
 length-joined (xs ∷ xss) = omega (arith, length-append xs (joined xss), length-joined xss)
+
+-- so are lists that are made one by one
+pub length-joined-map : {A B : Type 0} (f : A → List B) (xs : List A) → sum (map (λ x. length (f x)) xs) ≡ length (joined (map f xs))
+unfolding joined sum
+length-joined-map f [] = refl
+length-joined-map f (x ∷ xs) = omega (arith, length-append (f x) (joined (map f xs)), length-joined-map f xs)
 
 pub joined-joined : {A B : Type 0} (f : A → List (List B)) (xs : List A) → joined (map (λ x. joined (f x)) xs) ≡ joined (joined (map f xs))
 unfolding joined

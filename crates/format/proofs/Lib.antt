@@ -9,5 +9,8 @@ pub mod Walks
 pub mod Puts
 pub mod Tiling
 pub mod Facts
+pub mod ListedTags
+pub mod Levels
 pub mod Indexed
 pub mod Sameness
+pub mod Bounds

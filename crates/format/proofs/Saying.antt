@@ -7,13 +7,14 @@ use Prim.Native.Nat.{ℕ, _+_, _-_, _≤_, _<_}
 use native.Mathlib.Omega.{arith}
 use lib.ListN.{length, drop, length-drop, drop-of-length-le}
 use lib.Seq.{drop-cons, drop-length}
-use Rattle.format.specs.Bytes.{if_then_else_}
+use Rattle.format.specs.Bytes.{if_then_else_, empty}
 use Rattle.format.specs.declared.Fault.{Fault}
 use Rattle.format.specs.declared.Fault.the-variants.{WrongLength}
 use Rattle.format.specs.Items.{Verdict, fine, fault, Got, _then_, Reader, _>>=_, give, _or_unless_, whole}
 use Rattle.format.specs.Chunks.{headerOf, ofLength, unjudged}
 use Rattle.format.specs.Said.{keep, itself, Says, Moves, Keeps, JudgedAt, got}
 use Rattle.format.proofs.Facts.{impossible}
+use Rattle.format.proofs.Verdicts.{then-then, then-same}
 
 -- ---- what is kept
 
@@ -186,7 +187,29 @@ module _ {A B C : Type 0} {header : ℕ} {r : Reader A} (k : A → Reader B) {h 
   pub judged-off : {D : Type 0} {g : A → D} {why : Fault} {p : ℕ} → Says r g s at (fault why p) → JudgedAt header at (r >>= k) h s (fault why p)
   judged-off w = faulty (off k w)
 
+  pub judged-some : {D : Type 0} {g : A → D} {answer : Verdict C} {y : D} {next : ℕ} → Says r g s at (got s y next) → ((x : A) → g x ≡ y → JudgedAt header next (k x) h s answer) → JudgedAt header at (r >>= k) h s answer
+  unfolding whole _then_ _>>=_
+  judged-some w j = let m = met w in record { is = rw (m .is) (j (m .value) (m .shows) .is) }
+
 module _ {A B : Type 0} {header : ℕ} (width : ℕ) (ok : ℕ → Bool) (r : Reader A) {h : A → B} {s : List ℕ} {at : ℕ} where
   pub judged-length : {answer : Verdict B} → ok (length s - at) ≡ true → JudgedAt header at r h s answer → JudgedAt header at (ofLength width ok r) h s answer
   unfolding ofLength whole
   judged-length e j = record { is = rw (length-drop at s, e) (j .is) }
+
+-- what is made of a body, and a part of what was judged
+module _ {A B C : Type 0} {header at : ℕ} {r : Reader A} {h : B → C} {s : List ℕ} where
+  pub judged-as : (k : A → B) {answer : Verdict C} → JudgedAt header at r (λ a. h (k a)) s answer → JudgedAt header at (r >>= λ a. give (k a)) h s answer
+  unfolding whole _then_ _>>=_
+  judged-as k {answer} j = record { is = by (r at (drop at s)) (j .is) }
+    where
+      yes : (b : Bool) (a : A) → ((if b then fine a else fault WrongLength header) then λ a. fine (h (k a))) ≡ ((if b then fine (k a) else fault WrongLength header) then λ b. fine (h b))
+      yes true a = refl
+      yes false a = refl
+
+      by : (v : Verdict (Got A)) → answer ≡ ((v then λ g. if empty (g .left) then fine (g .value) else fault WrongLength header) then λ a. fine (h (k a)))
+          → answer ≡ (((v then λ g. give (k (g .value)) (g .next) (g .left)) then λ g. if empty (g .left) then fine (g .value) else fault WrongLength header) then λ b. fine (h b))
+      by (fine g) e = e ∙ yes (empty (g .left)) (g .value)
+      by (fault why p) e = e
+
+pub judged-part : {A B C : Type 0} {header at : ℕ} {r : Reader A} {h : A → B} {s : List ℕ} (g : B → C) {f : A → C} {v : Verdict B} → ((a : A) → g (h a) ≡ f a) → JudgedAt header at r h s v → JudgedAt header at r f s (v then λ b. fine (g b))
+judged-part {h} g {f} same j = record { is = rw (j .is) (then-then _ h g ∙ then-same _ (λ a. g (h a)) f same) }

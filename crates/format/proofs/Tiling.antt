@@ -21,6 +21,7 @@ fits a b c d e = and-eq-true-iff c (d && true) .0 (and-eq-true-iff b (c && (d &&
 -- A chunk that is read at any place: its size, and what is read of the same bytes elsewhere.
 pub record Framed (at : ℕ) (b : List ℕ) (g : Got Chunk) : Type 0 where
   pub size : g .next ≡ at + sizeOf 4 (length (g .value .body))
+  pub whole : 8 + length (g .value .body) + length (g .left) ≤ length b
   pub less : length (g .left) < length b
   pub next : ℕ
   pub first : chunkOf 4 0 b ≡ fine (record { value = g .value; next = next; left = g .left })
@@ -41,7 +42,7 @@ framed at b g e = by (wellFormed 4 b) refl e
         let room : sizeOf 4 n ≤ length b = leb-true _ _ (fits (leb 8 (length b)) (all (between 32 126) (take 4 b)) (leb (sizeOf 4 n) (length b)) _ ok) in
         let long : length (take n (drop 8 b)) ≡ n = rw (length-take n (drop 8 b), length-drop 8 b) (omega arith) in
         let whole : read at ≡ g = cc in
-        subst (Framed at b) whole (record { size = rw long; less = rw (length-drop (sizeOf 4 n) b) (omega arith); next = 0 + sizeOf 4 n; first = rw ok })
+        subst (Framed at b) whole (record { size = rw long; whole = rw (long, length-drop (sizeOf 4 n) b) (omega arith); less = rw (length-drop (sizeOf 4 n) b) (omega arith); next = 0 + sizeOf 4 n; first = rw ok })
 
 pub unframed : (at : ℕ) (b : List ℕ) {why : Fault} {p : ℕ} → chunkOf 4 at b ≡ fault why p → chunkOf 4 0 b ≡ fault BadHeader 0
 unfolding chunkOf

@@ -1,13 +1,14 @@
 -- The reader's answer, and what the lent tables hold after it.
 use Prim.Native.Nat.{ℕ, _/_}
 use mathlib.Core.List.{List, [], _∷_, _++_}
-use mathlib.Core.Bool.{Bool}
+use mathlib.Core.Path.{_≡_}
+use mathlib.Core.Bool.{Bool, true}
 use lib.ListN.{length, drop}
 use lib.Dec.{leb}
-use Rattle.format.specs.Bytes.{if_then_else_, every}
+use Rattle.format.specs.Bytes.{if_then_else_, byte, every, all}
 use Rattle.format.specs.Refusals.{noRoom}
 use Rattle.format.specs.Mesh.{Mesh, pointSize, polygonSize, recordSize, Tables, tables, Needs, needs}
-use Rattle.format.specs.Rules.{Outcome, refused, gives}
+use Rattle.format.specs.Rules.{Outcome, refused, gives, rules}
 
 -- "the number (0 accepted), the place, five needs (points, polygons, vertices, names, name bytes), the skipped count and the detail count"
 pub record Answer : Type 0 where
@@ -32,7 +33,8 @@ fits n t =
     ∷ leb (n .names) (length (t .records) / recordSize)
     ∷ [])
 
--- "On 0 the place is 0, needs and counts are full .. On 16 needs and counts are full; on every other refusal they are 0."
+-- "On 0 the place is 0, needs and counts are full, the front of each table holds the mesh and the rest is unchanged. On 16 needs and counts are full; on
+-- every other refusal they are 0." And "16 is last": it is given where no other refusal is.
 unfoldable pub answer : Outcome → Tables → Answer
 answer (refused number place) t = record { number = number; place = place; needs = noNeeds; skipped = 0; details = 0 }
 answer (gives mesh skipped details) t = record {
@@ -57,7 +59,15 @@ filled m t = record {
   records = over (m .records) (t .records);
 }
 
--- "Every refusal leaves every lent table .. unchanged."
+-- "Every refusal leaves every lent table or output buffer unchanged."
 unfoldable pub tablesAfter : Outcome → Tables → Tables
 tablesAfter (refused number place) t = t
 tablesAfter (gives mesh skipped details) t = if fits (needs mesh) t then filled (tables mesh) t else t
+
+-- ---- the contract of a file reader
+
+-- It is lent a file, which is bytes, and the tables t; it answers a, and the tables come back as t′.
+pub record Reads (file : List ℕ) (t : Tables) (a : Answer) (t′ : Tables) : Type 0 where
+  pub bytes : all byte file ≡ true
+  pub answers : a ≡ answer (rules file) t
+  pub leaves : t′ ≡ tablesAfter (rules file) t

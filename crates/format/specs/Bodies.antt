@@ -7,13 +7,14 @@ use lib.Dec.{leb, ltb, eqb}
 use lib.IntN.{ℤ}
 use Rattle.format.specs.declared.Kind.{Kind}
 use Rattle.format.specs.declared.Kind.the-variants.{LWOB, LWO2}
+use Rattle.format.specs.declared.Container.the-variants.{Surf}
 use Rattle.format.specs.declared.Fault.the-variants.{VertexCount, VertexNumber, SurfaceNumber, PolygonNumber, PolygonType, BadName, DetailSurface}
-use Rattle.format.specs.Bytes.{if_then_else_, _is_, between, absolute, negative, sum, joined, amongst}
+use Rattle.format.specs.Bytes.{if_then_else_, _is_, between, absolute, negative, sum, amongst}
 use Rattle.format.specs.Limits.{nameLimit, lwobVertexLimit, lwobPointLimit}
 use Rattle.format.specs.Items.{Reader, _>>=_, give, _or_unless_, times, many, u2, u4, i2, float, vx, string}
-use Rattle.format.specs.Chunks.{ofLength, sub, unjudged}
+use Rattle.format.specs.Chunks.{ofLength, unjudged}
 use Rattle.format.specs.Mesh.{Point, Polygon, FACE, PATCH, Name}
-use Rattle.format.specs.Surfaces.{Value, valueOf}
+use Rattle.format.specs.Surfaces.{Value, nested, surfaceDepth}
 
 -- What a chunk contributes. Vertices count from the first of the latest points, and the polygons of a tagging from the first of the latest POLS.
 pub data Part : Type 0 where
@@ -57,7 +58,7 @@ namesBody at s = (do ns ← namesAfter (length s) []; give (names ns)) at s
 abbrev pub vertex : (item : Reader ℕ) (pointCount : ℕ) → Reader ℕ
 vertex item pointCount = item or VertexNumber unless (λ v. ltb v pointCount)
 
--- LWOB: "count U2, vertices U2, surface I2". "Vertices per polygon: 1 to 200 in LWOB."
+-- LWOB: "count U2, vertices U2, surface I2". "Vertices per polygon: 1 to 200 in LWOB, 1 to 1,023 in LWO2."
 unfoldable pub lwobVertices : (pointCount : ℕ) → Reader (List ℕ)
 lwobVertices pointCount = do n ← u2 or VertexCount unless between 1 lwobVertexLimit; times n (vertex u2 pointCount)
 
@@ -65,7 +66,7 @@ lwobVertices pointCount = do n ← u2 or VertexCount unless between 1 lwobVertex
 abbrev pub listed : (nameCount : ℕ) → ℤ → Bool
 listed nameCount z = between 1 nameCount (absolute z)
 
--- "Details are checked alike and counted, and not kept." "A negative number in a detail is 14 and not 10."
+-- "Details are checked alike and counted, and not kept (003 says to ignore them). A negative number in a detail is 14 and not 10."
 unfoldable pub detail : (pointCount nameCount : ℕ) → Reader ℤ
 detail pointCount nameCount = do
   vs ← lwobVertices pointCount
@@ -146,4 +147,4 @@ surfaceName LWOB = string
 surfaceName LWO2 = do n ← string; source ← string; give n
 
 unfoldable pub surfaceBody : Kind → Reader Part
-surfaceBody kind = do n ← surfaceName kind; vs ← many (sub (valueOf kind)); give (surface n (joined vs))
+surfaceBody kind = do n ← surfaceName kind; vs ← nested surfaceDepth (Surf kind); give (surface n vs)

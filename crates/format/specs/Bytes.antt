@@ -16,6 +16,9 @@ if_then_else_ false a b = b
 
 -- ---- numbers and tags
 
+abbrev pub byte : ℕ → Bool
+byte b = ltb b 256
+
 -- "All integers and floats have the high byte first."
 unfoldable pub number : List ℕ → ℕ
 number = foldl (λ n b. n * 256 + b) 0
@@ -47,9 +50,9 @@ negative (negsuc n) = true
 
 -- ---- floats, by their bit patterns
 
--- An f32 is finite where its eight exponent bits are not all ones.
+-- An f32 has 32 bits, and is finite where its eight exponent bits are not all ones.
 unfoldable pub finite : ℕ → Bool
-finite bits = not (eqb (bits / 2 ^ 23 % 256) 255)
+finite bits = ltb bits (2 ^ 32) && not (eqb (bits / 2 ^ 23 % 256) 255)
 
 -- "divided by 255, rounded once"
 unfoldable pub over255 : ℕ → ℕ

@@ -93,7 +93,7 @@ surfaceChunks [] ss = []
 surfaceChunks (n ∷ ns) [] = []
 surfaceChunks (n ∷ ns) (s ∷ ss) = (if eqb (s .defined) 1 then ("SURF", surfaceBytes n s) ∷ [] else []) ++ surfaceChunks ns ss
 
--- "TAGS, PNTS, then for each longest run of one kind a POLS and a PTAG SURF ..; then a SURF for each defined name"
+-- "TAGS, PNTS, then for each longest run of one kind a POLS and a PTAG SURF for its tagged polygons, ascending; then a SURF for each defined name in order"
 unfoldable pub canonicalChunks : Mesh → List (String × List ℕ)
 canonicalChunks m =
     unlessEmpty "TAGS" "" stringBytes (m .names)

@@ -1,4 +1,4 @@
--- Chunks: "a tag, a U4 length, the body, and a zero pad byte if the length is odd"; "a sub-chunk has a U2 length".
+-- Chunks: "a tag, a U4 length, the body, and a zero pad byte if the length is odd". "A sub-chunk has a U2 length."
 use Prim.Native.Nat.{ℕ, zero, suc, _+_, _-_, _%_}
 use mathlib.Core.List.{List, [], _∷_}
 use mathlib.Core.Bool.{Bool}
@@ -19,7 +19,8 @@ sizeOf width n = 4 + width + n + n % 2
 unfoldable pub lengthOf : (width : ℕ) → List ℕ → ℕ
 lengthOf width s = number (take width (drop 4 s))
 
--- 4: "header cut, tag byte outside 32..126, length past the parent's end, pad byte missing or not zero"
+-- "It is well formed where 4 finds no fault in it, whatever its body holds." 4: "header cut, tag byte outside 32..126, length past the parent's end, pad byte
+-- missing or not zero"
 unfoldable pub wellFormed : (width : ℕ) → List ℕ → Bool
 wellFormed width s =
     every
@@ -66,7 +67,8 @@ chunks s = split (length s) s
 
 -- ---- sub-chunks
 
--- A sub-chunk whose body is read as its tag says. "Sub-chunks tile their parent": many of these.
+-- A sub-chunk whose body is read as its tag says. As a chunk's, its "tag, length and pad are judged together (4)", before its body: "Sub-chunks likewise."
+-- "sub-chunks tile their parent": many of these.
 unfoldable pub sub : {A : Type 0} → ((tag : ℕ) → Reader A) → Reader A
 sub inside at s = chunkOf 2 at s then λ c. whole at (inside (c .value .tag)) (at + 6) (c .value .body) then λ a. give a (c .next) (c .left)
 

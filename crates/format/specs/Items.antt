@@ -39,7 +39,8 @@ infixl 10 _>>=_
 unfoldable pub _>>=_ : {A B : Type 0} → Reader A → (A → Reader B) → Reader B
 _>>=_ r f at s = r at s then λ g. f (g .value) (g .next) (g .left)
 
--- "an item that is cut (6) before its value is judged"
+-- "an item that is cut (6) before its value is judged; where one item has several faults, the lower number": of two tests of one item that of the lower number
+-- stands first, a detail's 14 apart.
 infixl 15 _or_unless_
 unfoldable pub _or_unless_ : {A : Type 0} → Reader A → Fault → (A → Bool) → Reader A
 _or_unless_ r why ok at s = r at s then λ g. if ok (g .value) then fine g else fault why at
@@ -66,7 +67,7 @@ upTo (suc n) r at (b ∷ s) = (r and upTo n r) at (b ∷ s)
 unfoldable pub many : {A : Type 0} → Reader A → Reader (List A)
 many r at s = upTo (length s) r at s
 
--- ---- the items
+-- ---- the items: "Each type, number, float and string is an item."
 
 unfoldable pub item : ℕ → Reader (List ℕ)
 item n at s = if leb n (length s) then give (take n s) (at + n) (drop n s) else fault ItemCut at
@@ -87,7 +88,8 @@ i2 = do n ← u2; give (signed n)
 unfoldable pub float : Reader ℕ
 float = u4 or NotFinite unless finite
 
--- VX: "if the first byte is 255, four bytes, index in the low 24 bits; else two bytes. Reading goes on at the byte after the index."
+-- VX: "if the first byte is 255, four bytes, index in the low 24 bits; else two bytes. Reading goes on at the byte after the index. A small index in the long
+-- form is accepted."
 abbrev pub long : List ℕ → Bool
 long [] = false
 long (b ∷ s) = eqb b 255

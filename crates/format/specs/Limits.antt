@@ -24,6 +24,6 @@ lwobPointLimit = 65536
 abbrev pub entryLimit : ℕ
 entryLimit = 16777216
 
--- 17: "a surface above .. 65,536", since a tag has two bytes
+-- 17: "a surface above the name count or 65,536", since a tag has two bytes
 abbrev pub surfaceLimit : ℕ
 surfaceLimit = 65536

@@ -112,7 +112,7 @@ abbrev pub lent : (points polygons vertices names nameBytes records : List ℕ) 
 lent points polygons vertices names nameBytes records =
     record { points = points; polygons = polygons; vertices = vertices; names = names; nameBytes = nameBytes; records = records }
 
--- "Vertices: all polygons' point numbers, joined." "Names: a length each, and their bytes joined, no terminators."
+-- "Vertices: all polygons' point numbers, joined, counted from the file's first point." "Names: a length each, and their bytes joined, no terminators."
 unfoldable pub tables : Mesh → Tables
 tables m = record {
   points = joined (map pointWords (m .points));

@@ -33,6 +33,6 @@ notMesh = 17
 abbrev pub tooLong : ℕ
 tooLong = 18
 
--- "'Chunk' is the offset of the top-level chunk's tag." The header, item or string at fault lies `at` bytes after that tag.
+-- "Chunk" is "the offset of the top-level chunk's tag". The header, item or string at fault lies `at` bytes after that tag.
 abbrev pub placeOf : (chunk at : ℕ) → ℕ
 placeOf chunk at = chunk

@@ -45,36 +45,50 @@ abbrev pub count : Option ℕ → ℕ
 count none = 0
 count (some n) = n
 
--- "then 5, .. then the body", which starts eight bytes after the tag
+-- "then 5, then a fixed body length or PNTS's own length rules (6), then the body", which starts eight bytes after the tag
 infix 8 when_read_
 unfoldable pub when_read_ : Bool → Reader Part → List ℕ → Verdict Part
 when_read_ ok r body = if ok then whole 0 r 8 body else fault OutOfOrder 0
 
--- "A tag is listed only where it is named below, by kind of file and level": at the top level these are listed.
-abbrev pub listedTags : Kind → List String
-listedTags LWOB = "PNTS" ∷ "SRFS" ∷ "POLS" ∷ "PCHS" ∷ "SURF" ∷ []
-listedTags LWO2 = "PNTS" ∷ "TAGS" ∷ "POLS" ∷ "PTAG" ∷ "SURF" ∷ []
+-- a listed tag, whether its chunk may come after what stands before it, and how its body is read
+pub record ListedTag : Type 0 where
+  pub tag : String
+  pub inOrder : Before → Bool
+  pub body : Before → Reader Part
+
+infix 8 _if_read_
+abbrev pub _if_read_ : String → (inOrder : Before → Bool) → (body : Before → Reader Part) → ListedTag
+tag if inOrder read body = record { tag = tag; inOrder = inOrder; body = body }
+
+-- "A tag is listed only where it is named below, by kind of file and level." At the top level these are, with what 5 asks of each. LWOB: "Each at most
+-- once (5, house)"; "both PNTS and SRFS must come earlier". LWO2: "PNTS: a new latest point list each time"; "at most once (house)"; "POLS needs an earlier
+-- PNTS"; "needs an earlier POLS (5)".
+abbrev pub listedTags : Kind → List ListedTag
+listedTags LWOB =
+    ("PNTS" if (λ b. not (there (b .points))) read (λ b. pointsBody LWOB))
+    ∷ ("SRFS" if (λ b. not (there (b .names))) read (λ b. namesBody))
+    ∷ ("POLS" if (λ b. there (b .points) && there (b .names)) read (λ b. facesBody (count (b .points)) (count (b .names))))
+    ∷ ("PCHS" if (λ b. there (b .points) && there (b .names)) read (λ b. patchesBody (count (b .points)) (count (b .names))))
+    ∷ ("SURF" if (λ b. true) read (λ b. surfaceBody LWOB))
+    ∷ []
+listedTags LWO2 =
+    ("PNTS" if (λ b. true) read (λ b. pointsBody LWO2))
+    ∷ ("TAGS" if (λ b. not (there (b .names))) read (λ b. namesBody))
+    ∷ ("POLS" if (λ b. there (b .points)) read (λ b. polygonsBody (count (b .points))))
+    ∷ ("PTAG" if (λ b. there (b .polygons)) read (λ b. taggingBody (count (b .polygons)) (count (b .names))))
+    ∷ ("SURF" if (λ b. true) read (λ b. surfaceBody LWO2))
+    ∷ []
 
 abbrev pub unlistedTag : Kind → (tag : ℕ) → Bool
-unlistedTag kind t = all (λ tag. not (t is tag)) (listedTags kind)
+unlistedTag kind t = all (λ l. not (t is l .tag)) (listedTags kind)
 
--- How each is judged. LWOB: "PNTS, SRFS: each at most once (5, house). POLS, PCHS: both PNTS and SRFS must come earlier."
--- LWO2: "TAGS: at most once (house). POLS needs an earlier PNTS. PTAG needs an earlier POLS (5)." "Unlisted tags are skipped."
+-- "Unlisted tags are skipped; top-level ones are counted as skipped."
+abbrev pub judgedBy : List ListedTag → Before → (tag : ℕ) → List ℕ → Verdict Part
+judgedBy [] b t = λ body. fine skipped
+judgedBy (l ∷ ls) b t = if t is l .tag then when l .inOrder b read l .body b else judgedBy ls b t
+
 unfoldable pub judge : Kind → Before → (tag : ℕ) → List ℕ → Verdict Part
-judge LWOB b t =
-    if t is "PNTS" then when not (there (b .points)) read pointsBody LWOB
-    else if t is "SRFS" then when not (there (b .names)) read namesBody
-    else if t is "POLS" then when there (b .points) && there (b .names) read facesBody (count (b .points)) (count (b .names))
-    else if t is "PCHS" then when there (b .points) && there (b .names) read patchesBody (count (b .points)) (count (b .names))
-    else if t is "SURF" then when true read surfaceBody LWOB
-    else (λ body. fine skipped)
-judge LWO2 b t =
-    if t is "PNTS" then when true read pointsBody LWO2
-    else if t is "TAGS" then when not (there (b .names)) read namesBody
-    else if t is "POLS" then when there (b .points) read polygonsBody (count (b .points))
-    else if t is "PTAG" then when there (b .polygons) read taggingBody (count (b .polygons)) (count (b .names))
-    else if t is "SURF" then when true read surfaceBody LWO2
-    else (λ body. fine skipped)
+judge kind b t = judgedBy (listedTags kind) b t
 
 -- ---- the file
 
@@ -86,7 +100,7 @@ located top (fault why at) = fault why (placeOf top at)
 -- "then chunks in file order"
 unfoldable pub walk : Kind → Before → (place : ℕ) → Chunks → Verdict (List Part)
 walk kind b place finished = fine []
-walk kind b place broken = fault BadHeader place
+walk kind b place broken = fault BadHeader (placeOf place 0)
 walk kind b place (chunk t body rest) = do
   part ← located place (judge kind b t body)
   parts ← walk kind (after b part) (place + sizeOf 4 (length body)) rest
@@ -128,7 +142,8 @@ skippedOf = elim [ points ps ↦ 0 | names ns ↦ 0 | polygons ps n ↦ 0 | tagg
 unfoldable pub detailsOf : Part → ℕ
 detailsOf = elim [ points ps ↦ 0 | names ns ↦ 0 | polygons ps n ↦ n | tagging ts ↦ 0 | surface n vs ↦ 0 | skipped ↦ 0 ]
 
--- "the last SURF of a name stands, for the name anywhere in the file"; a name with no SURF keeps what it has `now`
+-- "the last SURF of a name stands, for the name anywhere in the file; a SURF for an unlisted name is checked and not kept". A name with no SURF keeps what it
+-- has `now`.
 unfoldable pub standing : Kind → Name → (now : Surface) → List (Name × List Value) → Surface
 standing kind n now [] = now
 standing kind n now (s ∷ ss) = standing kind n (if same n (s .0) then recordOf kind (s .1) else now) ss

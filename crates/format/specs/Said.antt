@@ -1,4 +1,4 @@
--- How a contract cites the rule book: what a reader says at a place of a slice, what a whole body is judged to be, and what a table holds after words
+-- How a contract cites the specification: what a reader says at a place of a slice, what a whole body is judged to be, and what a table holds after words
 -- were put into it. The slice is a chunk's bytes from its tag on, so that an index of it is a place.
 use Prim.Native.Nat.{ℕ, _+_, _*_, _≤_}
 use mathlib.Core.Path.{_≡_}

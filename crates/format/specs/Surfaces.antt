@@ -1,5 +1,5 @@
 -- Surfaces: the sub-chunks of a SURF, by kind of file and level, and the record that their values make.
-use Prim.Native.Nat.{ℕ, zero, suc, _/_, _%_, _^_}
+use Prim.Native.Nat.{ℕ, zero, suc, _+_, _/_, _%_, _^_}
 use Prim.Native.String.{String}
 use mathlib.Core.List.{List, [], _∷_, map}
 use mathlib.Core.Bool.{Bool, _||_}
@@ -7,8 +7,10 @@ use lib.ListN.{take, getD}
 use lib.Dec.{eqb}
 use Rattle.format.specs.declared.Kind.{Kind}
 use Rattle.format.specs.declared.Kind.the-variants.{LWOB, LWO2}
+use Rattle.format.specs.declared.Container.{Container}
+use Rattle.format.specs.declared.Container.the-variants.{Surf, Blok, Attributes}
 use Rattle.format.specs.declared.Fault.the-variants.{SurfaceValue}
-use Rattle.format.specs.Bytes.{if_then_else_, _is_, over255, over256, one, empty}
+use Rattle.format.specs.Bytes.{if_then_else_, _is_, over255, over256, one, empty, joined}
 use Rattle.format.specs.Items.{fault, Reader, _>>=_, give, _or_unless_, many, item, u2, i2, float, vx, string}
 use Rattle.format.specs.Chunks.{headerOf, sub, fixed, unjudged}
 use Rattle.format.specs.Mesh.{Surface, missing}
@@ -21,7 +23,7 @@ pub record Value : Type 0 where
 abbrev pub value : ℕ → List ℕ → List Value
 value t words = record { tag = t; words = words } ∷ []
 
--- "Unlisted tags are skipped."
+-- "Unlisted tags are skipped"
 abbrev pub unlisted : Reader (List Value)
 unlisted = unjudged []
 
@@ -57,23 +59,7 @@ lwobValue t =
     else if t is "FLAG" then flags t
     else unlisted
 
--- ---- LWO2: "the nesting is checked level by level, to a depth of at most four counting SURF's own sub-chunks as level two"
-
--- Sub-chunks of a container, of which a TMAP is one too while the depth allows it: none is listed on level four.
-unfoldable pub nested : (depth : ℕ) → Reader (List Value)
-nested zero = do vs ← many (sub (λ t. unlisted)); give []
-nested (suc depth) = do vs ← many (sub (λ t. if t is "TMAP" then nested depth else unlisted)); give []
-
--- level three: "its first sub-chunk is IMAP, PROC, GRAD or SHDR, holding a string and then sub-chunks"; another is the fault of BLOK's own header
-abbrev pub blockType : ℕ → Bool
-blockType t = t is "IMAP" || t is "PROC" || t is "GRAD" || t is "SHDR"
-
-unfoldable pub blockHeader : (blok tag : ℕ) → Reader (List Value)
-blockHeader blok t = if blockType t then (do ordinal ← string; nested 0) else (λ at s. fault SurfaceValue blok)
-
--- 15: "BLOK empty or with another first sub-chunk"; "a later one is unlisted"; "a TMAP directly in a BLOK holds sub-chunks"
-unfoldable pub block : Reader (List Value)
-block at s = if empty s then fault SurfaceValue (headerOf 2 at) else (do h ← sub (blockHeader (headerOf 2 at)); nested 1) at s
+-- ---- LWO2
 
 -- "COLR: three floats and a VX." "Bodies are used up exactly; the VX is dropped."
 abbrev pub floatColour : (tag : ℕ) → Reader (List Value)
@@ -90,18 +76,49 @@ sideNumber n = eqb n 1 || eqb n 3
 abbrev pub side : (tag : ℕ) → Reader (List Value)
 side t = fixed 2 (do n ← u2 or SurfaceValue unless sideNumber; give (value t (n ∷ [])))
 
--- level two
 unfoldable pub lwo2Value : (tag : ℕ) → Reader (List Value)
 lwo2Value t =
     if t is "COLR" then floatColour t
     else if level t then envelopedLevel t
     else if t is "SIDE" then side t
-    else if t is "BLOK" then block
     else unlisted
 
 abbrev pub valueOf : Kind → (tag : ℕ) → Reader (List Value)
 valueOf LWOB t = lwobValue t
 valueOf LWO2 t = lwo2Value t
+
+-- ---- the nesting: what a sub-chunk holds, by its container. `inner` reads the sub-chunks of a container on the level below.
+
+-- "a TMAP directly in a BLOK holds sub-chunks"; on level four its body is not looked at
+unfoldable pub attribute : (inner : Container → Reader (List Value)) (tag : ℕ) → Reader (List Value)
+attribute inner t = if t is "TMAP" then inner Attributes else unlisted
+
+-- "its first sub-chunk is IMAP, PROC, GRAD or SHDR, holding a string and then sub-chunks"; another is the fault of BLOK's own header
+abbrev pub blockType : ℕ → Bool
+blockType t = t is "IMAP" || t is "PROC" || t is "GRAD" || t is "SHDR"
+
+unfoldable pub blockHeader : (inner : Container → Reader (List Value)) (blok tag : ℕ) → Reader (List Value)
+blockHeader inner blok t = if blockType t then (do ordinal ← string; inner Attributes) else (λ at s. fault SurfaceValue blok)
+
+-- 15: "BLOK empty or with another first sub-chunk". It gives no value.
+unfoldable pub block : (inner : Container → Reader (List Value)) → Reader (List Value)
+block inner at s = if empty s then fault SurfaceValue (headerOf 2 at) else (do vs ← inner (Blok (headerOf 2 at)); give []) at s
+
+-- "BLOK, only in SURF"; its first sub-chunk is the one whose header follows its own, and "a later one is unlisted"
+unfoldable pub held : (inner : Container → Reader (List Value)) → Container → (tag : ℕ) → Reader (List Value)
+held inner (Surf LWOB) t = lwobValue t
+held inner (Surf LWO2) t = if t is "BLOK" then block inner else lwo2Value t
+held inner (Blok blok) t = λ at. if eqb (headerOf 2 at) (blok + 6) then blockHeader inner blok t at else attribute inner t at
+held inner Attributes t = attribute inner t
+
+-- "The nesting is checked level by level": the sub-chunks of a container, of which so many levels are looked at.
+unfoldable pub nested : (depth : ℕ) → Container → Reader (List Value)
+nested zero c = unlisted
+nested (suc depth) c = do vs ← many (sub (held (nested depth) c)); give (joined vs)
+
+-- "to a depth of at most four counting SURF's own sub-chunks as level two": levels two, three and four
+abbrev pub surfaceDepth : ℕ
+surfaceDepth = 3
 
 -- ---- the record
 
@@ -113,8 +130,8 @@ last (v ∷ vs) tag i now = last vs tag i (if v .tag is tag then getD (v .words)
 abbrev pub bit : ℕ → ℕ → Bool
 bit i n = eqb (n / 2 ^ i % 2) 1
 
--- LWOB: the float "wins over the short form in either order. FLAG: bit 8 gives sides 3; bit 0 gives luminosity 1.0 if neither LUMI nor VLUM is there.
--- Missing levels but colour are 0, sides 1." LWO2: "Missing: diffuse 1.0, other levels but colour 0, sides 1", as in `missing`.
+-- LWOB: the float "wins over the short form in either order. FLAG (2 bytes): bit 8 gives sides 3; bit 0 gives luminosity 1.0 if neither LUMI nor VLUM is
+-- there. Missing levels but colour are 0, sides 1." LWO2: "Missing: diffuse 1.0, other levels but colour 0, sides 1", as in `missing`.
 unfoldable pub recordOf : Kind → List Value → Surface
 recordOf LWOB vs = record {
   defined = 1;

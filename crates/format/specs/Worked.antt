@@ -1,4 +1,4 @@
--- "Worked by hand. Proved as one table with a single statement." Every case is computed.
+-- "Worked by hand": "Proved as one table with a single statement". Every case is computed.
 use Prim.Native.Nat.{ℕ, _+_, _-_, _*_}
 use Prim.Native.String.{String}
 use mathlib.Core.Path.{_≡_, refl}
@@ -13,21 +13,21 @@ use Rattle.format.specs.Refusals.{numberOf}
 use Rattle.format.specs.Items.{Verdict, fine, fault, Got, _then_, _>>=_, _or_unless_, whole, times, upTo, many, item, uint, i2, float, vx, toZero, string}
 use Rattle.format.specs.Chunks.{sizeOf, lengthOf, wellFormed, chunkOf, ofLength, link, split, chunks, sub, unjudged}
 use Rattle.format.specs.Mesh.{Mesh, missing}
-use Rattle.format.specs.Surfaces.{lwobValue, nested, blockHeader, block, lwo2Value, last, recordOf}
+use Rattle.format.specs.Surfaces.{lwobValue, lwo2Value, attribute, blockHeader, block, held, nested, last, recordOf}
 use Rattle.format.specs.Bodies.{point, wholePoints, pointsBody, name, namesAfter, namesBody, lwobVertices, detail, details, detailsAfter, face, facesBody, patch, patchesBody, lwo2Vertices, polygon, polygonsBody, pair, taggingBody, surfaceName, surfaceBody}
 use Rattle.format.specs.Rules.{Outcome, refused, gives, after, when_read_, judge, located, walk, kindOf, form, judged, pointsOf, namesOf, surfacesOf, skippedOf, detailsOf, standing, retag, polygonsIn, meshOf, outcome, rules}
 use Rattle.format.specs.Canonical.{bytes, vxBytes, stringBytes, chunkBytes, polygonBytes, pairsOf, pairBytes, levelBytes, surfaceBytes, ahead, runs, unlessEmpty, runChunks, surfaceChunks, canonicalChunks, formBytes, canonical}
 
 -- bytes, as the table writes them
-digit : ℕ → ℕ
+unfoldable pub digit : ℕ → ℕ
 digit c = if leb 97 c then c - 87 else c - 48
 
-pairs : List ℕ → List ℕ
+unfoldable pub pairs : List ℕ → List ℕ
 pairs [] = []
 pairs (a ∷ []) = []
 pairs (a ∷ b ∷ s) = (digit a * 16 + digit b) ∷ pairs s
 
-hex : String → List ℕ
+unfoldable pub hex : String → List ℕ
 hex s = pairs (spelt s)
 
 -- what a case is about, and what it gives
@@ -58,7 +58,7 @@ run (mesh m) = written-as (canonical m)
 nothing : Mesh
 nothing = record { points = []; polygons = []; names = []; surfaces = [] }
 
-case-l : List ℕ
+unfoldable pub case-l : List ℕ
 case-l =
     hex "464f524d000000604c574f32"
     ++ hex "54414753000000044f616b00"
@@ -75,7 +75,7 @@ mesh-l = record {
   surfaces = missing ∷ [];
 }
 
--- the cases a to l in order, and that the file of l is "canonical too"
+-- the cases a to l in order, and that the file of l is "Canonical too"
 table : List (Input × Result)
 table =
     (file (hex "464f524d000000044c574f32"), file-gives (gives nothing 0 0))
@@ -94,5 +94,5 @@ table =
     ∷ []
 
 worked : map (λ c. run (c .0)) table ≡ map (λ c. c .1) table
-unfolding digit pairs hex result run nothing case-l mesh-l table number finite over255 over256 every all sum joined same amongst numberOf _then_ _>>=_ _or_unless_ whole times upTo many item uint i2 float vx toZero string sizeOf lengthOf wellFormed chunkOf ofLength link split chunks sub unjudged lwobValue nested blockHeader block lwo2Value last recordOf point wholePoints pointsBody name namesAfter namesBody lwobVertices detail details detailsAfter face facesBody patch patchesBody lwo2Vertices polygon polygonsBody pair taggingBody surfaceName surfaceBody after when_read_ judge located walk kindOf form judged pointsOf namesOf surfacesOf skippedOf detailsOf standing retag polygonsIn meshOf outcome rules bytes vxBytes stringBytes chunkBytes polygonBytes pairsOf pairBytes levelBytes surfaceBytes ahead runs unlessEmpty runChunks surfaceChunks canonicalChunks formBytes canonical
+unfolding digit pairs hex result run nothing case-l mesh-l table number finite over255 over256 every all sum joined same amongst numberOf _then_ _>>=_ _or_unless_ whole times upTo many item uint i2 float vx toZero string sizeOf lengthOf wellFormed chunkOf ofLength link split chunks sub unjudged lwobValue lwo2Value attribute blockHeader block held nested last recordOf point wholePoints pointsBody name namesAfter namesBody lwobVertices detail details detailsAfter face facesBody patch patchesBody lwo2Vertices polygon polygonsBody pair taggingBody surfaceName surfaceBody after when_read_ judge located walk kindOf form judged pointsOf namesOf surfacesOf skippedOf detailsOf standing retag polygonsIn meshOf outcome rules bytes vxBytes stringBytes chunkBytes polygonBytes pairsOf pairBytes levelBytes surfaceBytes ahead runs unlessEmpty runChunks surfaceChunks canonicalChunks formBytes canonical
 worked = refl

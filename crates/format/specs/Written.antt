@@ -1,6 +1,7 @@
 -- Which tables are a mesh, the writer's answer, and what the lent output holds after it.
 use Prim.Native.Nat.{ℕ, _/_, _%_}
 use mathlib.Core.List.{List, [], _∷_, _++_, map}
+use mathlib.Core.Path.{_≡_}
 use mathlib.Core.Bool.{Bool, true, not, _&&_, _||_}
 use lib.ListN.{length, take, drop, replicate}
 use lib.Dec.{leb, ltb, eqb}
@@ -45,7 +46,7 @@ meshFrom t = record {
 unfoldable pub wholeEntries : ℕ → List ℕ → Bool
 wholeEntries n ws = eqb (length ws % n) 0 && leb (length ws / n) entryLimit
 
--- "a kind, vertex count (1 to 1,023), vertex number .. outside its range; a surface above the name count or 65,536"
+-- "a kind, vertex count (1 to 1,023), vertex number, defined or sides number outside its range; a surface above the name count or 65,536"
 unfoldable pub goodPolygon : (pointCount nameCount : ℕ) → Polygon → Bool
 goodPolygon pointCount nameCount p =
     every
@@ -64,7 +65,7 @@ unfoldable pub goodNames : (earlier : List Name) → List Name → Bool
 goodNames earlier [] = true
 goodNames earlier (n ∷ ns) = newName earlier n && noZero n && goodNames (earlier ++ (n ∷ [])) ns
 
--- "a .. defined or sides number outside its range"; "a float not finite; an undefined record with other than the missing values, by bits"
+-- its "defined or sides number outside its range"; "a float not finite; an undefined record with other than the missing values, by bits"
 unfoldable pub goodSurface : Surface → Bool
 goodSurface s =
     every
@@ -116,6 +117,13 @@ written t room =
     let n = length (canonical (meshFrom t)) in
     if not (isMesh t) then says notMesh 0 else if ltb fileLimit n then says tooLong 0 else if ltb room n then says noRoom n else says 0 n
 
--- "output past that length is unchanged. Every refusal leaves .. output buffer unchanged."
+-- "output past that length is unchanged. Every refusal leaves every lent table or output buffer unchanged."
 unfoldable pub outputAfter : Tables → List ℕ → List ℕ
 outputAfter t out = if eqb (written t (length out) .number) 0 then over (canonical (meshFrom t)) out else out
+
+-- ---- the contract of a writer
+
+-- It is lent the tables t and the output out; it answers a, and the output comes back as out′.
+pub record Writes (t : Tables) (out : List ℕ) (a : Written) (out′ : List ℕ) : Type 0 where
+  pub answers : a ≡ written t (length out)
+  pub leaves : out′ ≡ outputAfter t out

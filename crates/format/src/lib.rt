@@ -1,9 +1,17 @@
-// The rules of document 01 as definitions: see specs/. Code and rules share these two types.
+// The rules of document 01 as definitions: see specs/. Code and rules share these types.
 
 // The two kinds of file.
 pub enum Kind {
     LWOB,
     LWO2,
+}
+
+// What sub-chunks stand in: a SURF; a BLOK, whose header has a place; or what holds attributes of a block, which is its header (IMAP, PROC, GRAD or SHDR) or a
+// TMAP.
+pub enum Container {
+    Surf(Kind),
+    Blok(usize),
+    Attributes,
 }
 
 // What can be wrong with a file. It is finer than the refusal numbers, which specs/Refusals.antt gives.

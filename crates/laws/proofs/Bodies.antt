@@ -11,31 +11,30 @@ use borrow.Author.Tests.{le-leb, lt-ltb, eq-eqb, ltb-true, leb-true, eqb-true, e
 use Rattle.format.specs.declared.Fault.the-variants.{VertexCount, VertexNumber, SurfaceNumber, PolygonNumber, PolygonType, BadName, SurfaceValue}
 use Rattle.format.specs.Bytes.{if_then_else_, number, spelt, finite, all, joined}
 use Rattle.format.specs.Limits.{vertexLimit, surfaceLimit}
-use Rattle.format.specs.Items.{_then_, _>>=_, give, _or_unless_, u2, u4, uint, vx, stringSize}
+use Rattle.format.specs.Items.{Reader, _then_, _>>=_, give, _or_unless_, u2, u4, uint, vx, stringSize}
 use Rattle.format.specs.declared.Kind.the-variants.{LWO2}
+use Rattle.format.specs.declared.Container.the-variants.{Surf}
 use Rattle.format.specs.Chunks.{sub, fixed}
 use Rattle.format.specs.Mesh.{Point, pointWords, pointFrom, Polygon, FACE, PATCH, Name, Surface, levels}
-use Rattle.format.specs.Surfaces.{Value, value, sideNumber, lwo2Value, last, recordOf}
+use Rattle.format.specs.Surfaces.{Value, value, sideNumber, lwo2Value, held, nested, last, recordOf}
 use Rattle.format.specs.Bodies.{points, names, polygons, tagging, surface, point, wholePoints, pointsBody, newName, name, namesAfter, namesBody, vertex, countBits, lwo2Vertices, polygon, polygonType, polygonKind, polygonsBody, pair, taggingBody, surfaceName, surfaceBody}
 use Rattle.format.specs.Canonical.{bytes, vxBytes, stringBytes, chunkBytes, pointBytes, polygonBytes, typeOf, pairsOf, pairBytes, levelBytes, surfaceBytes}
 use Rattle.format.specs.Written.{goodPolygon, noZero, goodNames}
 use Rattle.format.proofs.Facts.{every-at, all-first, all-rest, all-part, between-true, length-entries}
 use Rattle.laws.proofs.Reading.{Reads, Ends, ends, reads-give, reads-then, ends-then, reads-as, ends-as, reads-unless, Row, none, more, reads-times, ends-many, rows, rows-same}
-use Rattle.laws.specs.Conditions.{word32}
 use Rattle.laws.proofs.Items.{reads-item, length-bytes, reads-uint, floats, reads-floats, reads-vx, reads-string}
+use Rattle.laws.proofs.GoodPolygons.{GoodPolygon, good-polygon}
 use Rattle.laws.proofs.Chunks.{isTag, more-sub, ends-of-length}
 
 -- ---- points
 
 -- three finite f32
 abbrev pub goodPoint : Point → Bool
-goodPoint p = all finite (pointWords p) && all word32 (pointWords p)
+goodPoint p = all finite (pointWords p)
 
 reads-point : (p : Point) → goodPoint p ≡ true → Reads point (pointBytes p) p
 unfolding point floats
-reads-point p ok =
-    let both = and-eq-true-iff (all finite (pointWords p)) (all word32 (pointWords p)) .0 ok in
-    rw append-nil at (reads-floats (λ ws. give (pointFrom ws)) (pointWords p) (both .0) (both .1) reads-give)
+reads-point p ok = rw append-nil at (reads-floats (λ ws. give (pointFrom ws)) (pointWords p) ok reads-give)
 
 pub length-point : (p : Point) → length (pointBytes p) ≡ 12
 unfolding joined bytes
@@ -94,23 +93,6 @@ unfolding namesBody
 ends-names ns ok = record { here = ends-as names (ends-names-after (length (joined (map stringBytes ns))) [] ns ok (omega arith)) .here }
 
 -- ---- polygons
-
-pub record GoodPolygon (pointCount nameCount : ℕ) (p : Polygon) : Type 0 where
-  pub kinds : (FACE ≤ p .kind) × (p .kind ≤ PATCH)
-  pub count : (1 ≤ length (p .vertices)) × (length (p .vertices) ≤ vertexLimit)
-  pub vertices : all (λ v. ltb v pointCount) (p .vertices) ≡ true
-  pub named : p .surface ≤ nameCount
-  pub numbered : p .surface ≤ surfaceLimit
-
-pub good-polygon : (pointCount nameCount : ℕ) (p : Polygon) → goodPolygon pointCount nameCount p ≡ true → GoodPolygon pointCount nameCount p
-unfolding goodPolygon
-good-polygon pointCount nameCount p ok = record {
-  kinds = between-true _ _ _ (every-at _ 0 ok);
-  count = between-true _ _ _ (every-at _ 1 ok);
-  vertices = every-at _ 2 ok;
-  named = leb-true _ _ (every-at _ 3 ok);
-  numbered = leb-true _ _ (every-at _ 4 ok);
-}
 
 -- a polygon as POLS has it, without its surface
 abbrev pub bare : ℕ → Polygon → Polygon
@@ -223,16 +205,20 @@ valuesOf s =
     ∷ value (number (spelt "SIDE")) (s .sides ∷ [])
     ∷ []
 
+-- a SURF's own sub-chunks, by their tags
+abbrev values : (tag : ℕ) → Reader (List Value)
+values = held (nested 2) (Surf LWO2)
+
 -- a sub-chunk of levels, with its envelope, in front of others
-more-levels : (t : String) (xs : List ℕ) {ws : List (List ℕ)} {vs : List (List Value)} → isTag t ≡ true → length xs ≤ 3 → all finite xs ≡ true → all word32 xs ≡ true
-    → lwo2Value (number (spelt t)) ≡ floats (length xs) (λ ws. vx >>= λ envelope. give (value (number (spelt t)) ws))
-    → Row (sub lwo2Value) ws vs → Row (sub lwo2Value) (levelBytes t xs ∷ ws) (value (number (spelt t)) xs ∷ vs)
+more-levels : (t : String) (xs : List ℕ) {ws : List (List ℕ)} {vs : List (List Value)} → isTag t ≡ true → length xs ≤ 3 → all finite xs ≡ true
+    → values (number (spelt t)) ≡ floats (length xs) (λ ws. vx >>= λ envelope. give (value (number (spelt t)) ws))
+    → Row (sub values) ws vs → Row (sub values) (levelBytes t xs ∷ ws) (value (number (spelt t)) xs ∷ vs)
 unfolding levelBytes
-more-levels t xs good few known narrow reader row =
+more-levels t xs good few known reader row =
     let envelope : length (vxBytes 0) ≡ 2 = unfold vxBytes bytes in refl in
     let body : List ℕ = joined (map (bytes 4) xs) ++ vxBytes 0 in
     let small : length body < 65536 = omega (arith, length-append (joined (map (bytes 4) xs)) (vxBytes 0), length-entries 4 (bytes 4) (length-bytes 4) xs) in
-    more-sub lwo2Value t body good small (rw reader (ends (reads-floats _ xs known narrow (reads-as _ (reads-vx 0 (omega arith)))))) row
+    more-sub values t body good small (rw reader (ends (reads-floats _ xs known (reads-as _ (reads-vx 0 (omega arith)))))) row
 
 side-small : (n : ℕ) → sideNumber n ≡ true → n < 65536
 side-small n ok = go (eqb n 1) refl ok
@@ -246,8 +232,8 @@ ends-sides t n ok =
     ends-of-length 2 (eqb 2) (eq-eqb 2 (length (bytes 2 n)) (sym (length-bytes 2 n)))
     (ends (reads-as (λ n. value t (n ∷ [])) (reads-unless SurfaceValue sideNumber (reads-uint 2 n (side-small n ok)) ok)))
 
-row-values : (s : Surface) → all finite (levels s) ≡ true → all word32 (levels s) ≡ true → sideNumber (s .sides) ≡ true
-    → Row (sub lwo2Value)
+row-values : (s : Surface) → all finite (levels s) ≡ true → sideNumber (s .sides) ≡ true
+    → Row (sub values)
     (levelBytes "COLR" (s .red ∷ s .green ∷ s .blue ∷ [])
     ∷ levelBytes "DIFF" (s .diffuse ∷ [])
     ∷ levelBytes "LUMI" (s .luminosity ∷ [])
@@ -257,24 +243,23 @@ row-values : (s : Surface) → all finite (levels s) ≡ true → all word32 (le
     ∷ chunkBytes 2 "SIDE" (bytes 2 (s .sides))
     ∷ [])
     (valuesOf s)
-unfolding valuesOf lwo2Value number all floats
-row-values s known narrow sides =
+unfolding valuesOf held lwo2Value number all floats
+row-values s known sides =
     let finites : (i n : ℕ) → all finite (take n (drop i (levels s))) ≡ true = λ i n. all-part finite (levels s) i n known in
-    let words : (i n : ℕ) → all word32 (take n (drop i (levels s))) ≡ true = λ i n. all-part word32 (levels s) i n narrow in
-    more-levels "COLR" (s .red ∷ s .green ∷ s .blue ∷ []) refl (omega arith) (finites 0 3) (words 0 3) refl
-    (more-levels "DIFF" (s .diffuse ∷ []) refl (omega arith) (finites 3 1) (words 3 1) refl
-    (more-levels "LUMI" (s .luminosity ∷ []) refl (omega arith) (finites 4 1) (words 4 1) refl
-    (more-levels "SPEC" (s .specular ∷ []) refl (omega arith) (finites 5 1) (words 5 1) refl
-    (more-levels "REFL" (s .reflection ∷ []) refl (omega arith) (finites 6 1) (words 6 1) refl
-    (more-levels "TRAN" (s .transparency ∷ []) refl (omega arith) (finites 7 1) (words 7 1) refl
-    (more-sub lwo2Value "SIDE" (bytes 2 (s .sides)) refl (omega (arith, length-bytes 2 (s .sides))) (ends-sides _ (s .sides) sides) none))))))
+    more-levels "COLR" (s .red ∷ s .green ∷ s .blue ∷ []) refl (omega arith) (finites 0 3) refl
+    (more-levels "DIFF" (s .diffuse ∷ []) refl (omega arith) (finites 3 1) refl
+    (more-levels "LUMI" (s .luminosity ∷ []) refl (omega arith) (finites 4 1) refl
+    (more-levels "SPEC" (s .specular ∷ []) refl (omega arith) (finites 5 1) refl
+    (more-levels "REFL" (s .reflection ∷ []) refl (omega arith) (finites 6 1) refl
+    (more-levels "TRAN" (s .transparency ∷ []) refl (omega arith) (finites 7 1) refl
+    (more-sub values "SIDE" (bytes 2 (s .sides)) refl (omega (arith, length-bytes 2 (s .sides))) (ends-sides _ (s .sides) sides) none))))))
 
-pub ends-surface : (n : Name) (s : Surface) → noZero n ≡ true → all finite (levels s) ≡ true → all word32 (levels s) ≡ true → sideNumber (s .sides) ≡ true
+pub ends-surface : (n : Name) (s : Surface) → noZero n ≡ true → all finite (levels s) ≡ true → sideNumber (s .sides) ≡ true
     → Ends (surfaceBody LWO2) (surfaceBytes n s) (surface n (joined (valuesOf s)))
-unfolding surfaceBody surfaceName surfaceBytes joined all
-ends-surface n s no-zero known narrow sides =
+unfolding surfaceBody surfaceName nested surfaceBytes joined all
+ends-surface n s no-zero known sides =
     let name : Reads (surfaceName LWO2) (stringBytes n ++ stringBytes []) n = reads-then _ (reads-string n no-zero) (reads-as (λ source. n) (reads-string [] refl)) in
-    rw (← append-assoc (stringBytes n) (stringBytes [])) (ends-then _ name (ends-as (λ vs. surface n (joined vs)) (ends-many (row-values s known narrow sides))))
+    rw (← append-assoc (stringBytes n) (stringBytes [])) (ends-then _ name (ends-as (surface n) (ends-as joined (ends-many (row-values s known sides)))))
 
 -- the record that those values make
 pub record-back : (s : Surface) → s .defined ≡ 1 → recordOf LWO2 (joined (valuesOf s)) ≡ s

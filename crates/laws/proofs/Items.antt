@@ -12,9 +12,8 @@ use Rattle.format.specs.Bytes.{if_then_else_, number, finite, all, joined}
 use Rattle.format.specs.Items.{Reader, _then_, _>>=_, item, uint, float, long, vx, toZero, stringSize, string}
 use Rattle.format.specs.Canonical.{bytes, vxBytes, stringBytes}
 use Rattle.format.specs.Written.{noZero}
-use Rattle.format.proofs.Facts.{all-first, all-rest}
+use Rattle.format.proofs.Facts.{all-first, all-rest, finite-bits}
 use Rattle.laws.proofs.Reading.{Reads, reads-then, reads-as, reads-unless}
-use Rattle.laws.specs.Conditions.{word32}
 
 -- ---- numbers
 
@@ -43,24 +42,23 @@ reads-uint k n small = record { here = rw (number-bytes k n small) at (reads-as 
 
 -- ---- floats
 
--- a word of 32 bits, as a table and a file hold it
-reads-float : (n : ℕ) → finite n ≡ true → word32 n ≡ true → Reads float (bytes 4 n) n
+reads-float : (n : ℕ) → finite n ≡ true → Reads float (bytes 4 n) n
 unfolding float
-reads-float n known narrow = record { here = reads-unless _ finite (reads-uint 4 n (ltb-true n (2 ^ 32) narrow)) known .here }
+reads-float n known = record { here = reads-unless _ finite (reads-uint 4 n (finite-bits n known .0)) known .here }
 
 -- so many floats, and then what is read after them
 unfoldable pub floats : {A : Type 0} → ℕ → (List ℕ → Reader A) → Reader A
 floats zero f = f []
 floats (suc n) f = float >>= λ x. floats n (λ xs. f (x ∷ xs))
 
-pub reads-floats : {A : Type 0} (f : List ℕ → Reader A) {v : List ℕ} {y : A} (xs : List ℕ) → all finite xs ≡ true → all word32 xs ≡ true → Reads (f xs) v y
+pub reads-floats : {A : Type 0} (f : List ℕ → Reader A) {v : List ℕ} {y : A} (xs : List ℕ) → all finite xs ≡ true → Reads (f xs) v y
     → Reads (floats (length xs) f) (joined (map (bytes 4) xs) ++ v) y
 unfolding floats joined
-reads-floats f [] known narrow h = h
-reads-floats f (x ∷ xs) known narrow h =
+reads-floats f [] known h = h
+reads-floats f (x ∷ xs) known h =
     rw append-assoc
-    (reads-then _ (reads-float x (all-first _ x xs known) (all-first _ x xs narrow))
-    (reads-floats (λ xs. f (x ∷ xs)) xs (all-rest _ x xs known) (all-rest _ x xs narrow) h))
+    (reads-then _ (reads-float x (all-first _ x xs known))
+    (reads-floats (λ xs. f (x ∷ xs)) xs (all-rest _ x xs known) h))
 
 -- ---- VX
 

@@ -80,18 +80,22 @@ total-mesh m =
     let held : length (m .polygons) + total verticesOf (m .polygons) ≤ total encoded c = rw (joined-runs (m .polygons)) at (total-runs (runs (m .polygons))) in
     omega (arith, total-append encoded a (b ++ (c ++ d)), total-append encoded b (c ++ d), total-append encoded c d, total-unless "TAGS" "" stringBytes (m .names), length-names (m .names), total-unless "PNTS" "" pointBytes (m .points), length-entries 12 pointBytes length-point (m .points))
 
--- each count of a mesh whose canonical file is within that many bytes
+-- the counts of a mesh, as its tables have them, are at most so many
 pub record Counts (m : Mesh) (most : ℕ) : Type 0 where
   pub points : length (m .points) ≤ most
   pub polygons : length (m .polygons) ≤ most
   pub vertices : length (joined (map (λ p. p .vertices) (m .polygons))) ≤ most
   pub names : length (m .names) ≤ most
   pub nameBytes : length (joined (m .names)) ≤ most
-  pub chunks : 12 + length (joined (map encoded (canonicalChunks m))) ≤ most
 
+-- and so are those of a mesh whose canonical file is within that many bytes
 pub counts : (m : Mesh) (most : ℕ) → length (canonical m) ≤ most → Counts m most
 unfolding canonical
 counts m most short =
     let held = total-mesh m in
     let long = length-form LWO2 (joined (map encoded (canonicalChunks m))) in
-    record { points = omega arith; polygons = omega arith; vertices = omega arith; names = omega arith; nameBytes = omega arith; chunks = omega arith }
+    record { points = omega arith; polygons = omega arith; vertices = omega arith; names = omega arith; nameBytes = omega arith }
+
+pub chunks-within : (m : Mesh) (most : ℕ) → length (canonical m) ≤ most → 12 + length (joined (map encoded (canonicalChunks m))) ≤ most
+unfolding canonical
+chunks-within m most short = omega (arith, length-form LWO2 (joined (map encoded (canonicalChunks m))))

@@ -1,3 +1,5 @@
+pub mod GoodPolygons
+pub mod Readers
 pub mod Reading
 pub mod Items
 pub mod Chunks
@@ -7,10 +9,10 @@ pub mod Walk
 pub mod Polygons
 pub mod Meshes
 pub mod Form
+pub mod Accepted
 pub mod Lengths
 pub mod RoundTrip
 pub mod Tables
 pub mod WrittenBack
 pub mod Room
 pub mod Unlisted
-pub mod Placing

@@ -1,6 +1,6 @@
--- What room in the lent tables decides: whether a mesh is answered with 0 or with 16, and nothing else of the answer. Assumes nothing.
+-- What room in the lent tables decides: whether a mesh is answered with 0 or with 16, and nothing else of the answer.
 use Prim.Native.Nat.{ℕ, _/_, _≤_}
-use mathlib.Core.Path.{_≡_, refl, ap}
+use mathlib.Core.Path.{_≡_, refl, sym, ap, _∙_}
 use mathlib.Core.List.{List}
 use mathlib.Core.Logic.{_↔_, _≢_}
 use mathlib.Core.Bool.{Bool, true, false}
@@ -10,7 +10,7 @@ use lib.ListN.{length}
 use borrow.Author.Tests.{le-leb, leb-true}
 use Rattle.format.specs.declared.Fault.{Fault}
 use Rattle.format.specs.declared.Fault.the-variants.{FileTooLong, NotForm, FormLength, BadHeader, OutOfOrder, WrongLength, ItemCut, StringOpen, NotFinite, VertexCount, VertexNumber, SurfaceNumber, PolygonNumber, PolygonType, BadName, DetailSurface, SurfaceValue}
-use Rattle.format.specs.Bytes.{if_then_else_, every}
+use Rattle.format.specs.Bytes.{if_then_else_, between, every}
 use Rattle.format.specs.Refusals.{numberOf, noRoom}
 use Rattle.format.specs.Items.{Verdict, fine, fault}
 use Rattle.format.specs.declared.Kind.{Kind}
@@ -18,7 +18,7 @@ use Rattle.format.specs.Mesh.{Mesh, pointSize, polygonSize, recordSize, Tables,
 use Rattle.format.specs.Bodies.{Part}
 use Rattle.format.specs.Rules.{Outcome, refused, gives, judged, meshOf, outcome, rules}
 use Rattle.format.specs.Answer.{fits, Answer, answer}
-use Rattle.format.proofs.Facts.{every-at}
+use Rattle.format.proofs.Facts.{impossible, every-at, between-true}
 use Rattle.laws.specs.Conditions.{Longer}
 
 -- ---- longer tables
@@ -66,31 +66,39 @@ pub record NoRoom (o : Outcome) (t : Tables) : Type 0 where
   pub given : o ≡ gives mesh skipped details
   pub short : fits (needs mesh) t ≡ false
 
--- no fault of a file has the number 16
-number-not-16 : (why : Fault) → numberOf why ≡ noRoom → ⊥
+-- a fault of a file has a number from 1 to 15
+number-range : (why : Fault) → between 1 15 (numberOf why) ≡ true
 unfolding numberOf
-number-not-16 FileTooLong e = omega arith
-number-not-16 NotForm e = omega arith
-number-not-16 FormLength e = omega arith
-number-not-16 BadHeader e = omega arith
-number-not-16 OutOfOrder e = omega arith
-number-not-16 WrongLength e = omega arith
-number-not-16 ItemCut e = omega arith
-number-not-16 StringOpen e = omega arith
-number-not-16 NotFinite e = omega arith
-number-not-16 VertexCount e = omega arith
-number-not-16 VertexNumber e = omega arith
-number-not-16 SurfaceNumber e = omega arith
-number-not-16 PolygonNumber e = omega arith
-number-not-16 PolygonType e = omega arith
-number-not-16 BadName e = omega arith
-number-not-16 DetailSurface e = omega arith
-number-not-16 SurfaceValue e = omega arith
+number-range FileTooLong = refl
+number-range NotForm = refl
+number-range FormLength = refl
+number-range BadHeader = refl
+number-range OutOfOrder = refl
+number-range WrongLength = refl
+number-range ItemCut = refl
+number-range StringOpen = refl
+number-range NotFinite = refl
+number-range VertexCount = refl
+number-range VertexNumber = refl
+number-range SurfaceNumber = refl
+number-range PolygonNumber = refl
+number-range PolygonType = refl
+number-range BadName = refl
+number-range DetailSurface = refl
+number-range SurfaceValue = refl
+
+pub refused-range : (s : List ℕ) {number place : ℕ} → rules s ≡ refused number place → (1 ≤ number) × (number ≤ 15)
+unfolding rules outcome
+refused-range s {number} e = by (judged s) e
+  where
+    by : {place : ℕ} (v : Verdict (Kind × List Part)) → outcome v ≡ refused number place → (1 ≤ number) × (number ≤ 15)
+    by (fine f) e = impossible cc
+    by (fault why at) e = let same : numberOf why ≡ number = cc in between-true 1 15 number (ap (between 1 15) (sym same) ∙ number-range why)
 
 -- what was judged is answered with 16 only where it is a mesh that the tables do not hold
 no-room-of : (v : Verdict (Kind × List Part)) (t : Tables) → answer (outcome v) t .number ≡ noRoom → NoRoom (outcome v) t
 unfolding outcome answer
-no-room-of (fault why at) t e = absurd (number-not-16 why e)
+no-room-of (fault why at) t e = absurd (omega (arith, between-true 1 15 (numberOf why) (number-range why)))
 no-room-of (fine f) t e = record { mesh = m; skipped = _; details = _; given = refl; short = go (fits (needs m) t) e }
   where
     m : Mesh

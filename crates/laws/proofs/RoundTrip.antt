@@ -17,41 +17,31 @@ use Rattle.format.specs.Rules.{start, after, when_read_, judge, located, walk, 
 use Rattle.format.specs.Canonical.{bytes, chunkBytes, runs, unlessEmpty, surfaceChunks, canonicalChunks, formBytes, encoded, canonical}
 use Rattle.format.specs.Written.{goodNames, goodMesh}
 use Rattle.format.proofs.Facts.{all-and}
-use Rattle.laws.specs.Conditions.{word32, inWords}
 use Rattle.laws.proofs.Tiles.{inFront, chunks-row}
 use Rattle.laws.proofs.Bodies.{goodPoint}
 use Rattle.laws.proofs.Walk.{partsOf, Judged, row-judged, walk-judged, asRead, on-names, on-points, on-runs, on-surfaces, counted}
 use Rattle.laws.proofs.Polygons.{joined-runs}
 use Rattle.laws.proofs.Meshes.{Good, good, outcome-back}
 use Rattle.laws.proofs.Form.{rules-form}
-use Rattle.laws.proofs.Lengths.{Counts, counts}
+use Rattle.laws.proofs.Lengths.{Counts, counts, chunks-within}
 
 -- the chunks of its canonical file are judged fine, one after the other
-judged-chunks : (m : Mesh) → Good m → inWords m ≡ true → Counts m fileLimit → Judged start (canonicalChunks m) (partsOf m)
-unfolding canonicalChunks inWords
-judged-chunks m g narrow c =
-    let words = and-eq-true-iff (all (λ p. all word32 (pointWords p)) (m .points)) (all (λ s. all word32 (levels s)) (m .surfaces)) .0 narrow in
-    let floats : all goodPoint (m .points) ≡ true = all-and _ _ (m .points) (g .points) (words .0) in
+judged-chunks : (m : Mesh) → Good m → Counts m fileLimit → Judged start (canonicalChunks m) (partsOf m)
+unfolding canonicalChunks
+judged-chunks m g c =
     on-names (m .names) (g .names)
-    (on-points (counted (m .names)) (m .points) floats
+    (on-points (counted (m .names)) (m .points) (g .points)
     (on-runs none (m .points) (m .names) (c .points) (runs (m .polygons)) (rw (joined-runs (m .polygons)) (c .polygons)) (rw (joined-runs (m .polygons)) (g .polygons))
-    (λ gs. on-surfaces _ [] (m .names) (m .surfaces) (g .names) (g .surfaces) (words .1))))
+    (λ gs. on-surfaces _ [] (m .names) (m .surfaces) (g .names) (g .surfaces))))
 
 -- every good mesh whose canonical file is within the limit is given back by the rules
-pub round-trip : (m : Mesh) → goodMesh m ≡ true → inWords m ≡ true → length (canonical m) ≤ fileLimit → rules (canonical m) ≡ gives m 0 0
+pub round-trip : (m : Mesh) → goodMesh m ≡ true → length (canonical m) ≤ fileLimit → rules (canonical m) ≡ gives m 0 0
 unfolding canonical outcome _then_
-round-trip m ok narrow short =
+round-trip m ok short =
     let g : Good m = good m ok in
     let c : Counts m fileLimit = counts m fileLimit short in
-    let all-judged : Judged start (canonicalChunks m) (partsOf m) = judged-chunks m g narrow c in
+    let within = chunks-within m fileLimit short in
+    let all-judged : Judged start (canonicalChunks m) (partsOf m) = judged-chunks m g c in
     let rest : List ℕ = joined (map encoded (canonicalChunks m)) in
-    let found : chunks rest ≡ inFront (map asRead (canonicalChunks m)) finished = unfold chunks split in rw append-nil at (chunks-row (row-judged all-judged (omega (arith, c .chunks))) []) in
-    rules-form LWO2 rest (c .chunks) ∙ rw (found, walk-judged 12 all-judged) (outcome-back m g)
-
--- That `inWords` holds is needed: `goodMesh` alone lets a longer word pass, which a file then cuts. Computed.
-abbrev pointAt : ℕ → Mesh
-pointAt x = record { points = record { x = x; y = 0; z = 0 } ∷ []; polygons = []; names = []; surfaces = [] }
-
-pub words-needed : (goodMesh (pointAt (2 ^ 32 + 5)) ≡ true) × (rules (canonical (pointAt (2 ^ 32 + 5))) ≡ gives (pointAt 5) 0 0)
-unfolding goodNames goodMesh every number finite all sum joined _then_ _>>=_ _or_unless_ whole upTo many item uint float sizeOf lengthOf wellFormed chunkOf ofLength link split chunks point wholePoints pointsBody after when_read_ judge located walk kindOf form judged pointsOf namesOf detailsOf skippedOf surfacesOf standing polygonsIn meshOf outcome rules bytes chunkBytes runs unlessEmpty surfaceChunks canonicalChunks formBytes canonical
-words-needed = (refl, refl)
+    let found : chunks rest ≡ inFront (map asRead (canonicalChunks m)) finished = unfold chunks split in rw append-nil at (chunks-row (row-judged all-judged (omega arith)) []) in
+    rules-form LWO2 rest within ∙ rw (found, walk-judged 12 all-judged) (outcome-back m g)

@@ -197,11 +197,10 @@ mesh-from-tables m = λ i. record {
     polygons-same =
         rw (counts-from (m .polygons), pieces-joined (map (λ p. p .vertices) (m .polygons)), entries-of polygonSize polygonWords (omega arith) (λ p. refl) (m .polygons)) (polygons-from (m .polygons))
 
--- and the tables of a good mesh whose canonical file is within the limit are a mesh
-pub tables-of-mesh : (m : Mesh) → goodMesh m ≡ true → length (canonical m) ≤ fileLimit → isMesh (tables m) ≡ true
+-- and the tables of a good mesh whose counts are within the limit are a mesh
+pub good-mesh-tables : (m : Mesh) → goodMesh m ≡ true → Counts m entryLimit → isMesh (tables m) ≡ true
 unfolding isMesh tables every
-tables-of-mesh m ok short =
-    let c : Counts m entryLimit = counts m entryLimit short in
+good-mesh-tables m ok c =
     let vs : List (List ℕ) = map (λ p. p .vertices) (m .polygons) in
     let names : length (map length (m .names)) ≤ entryLimit = omega (arith, length-map (m .names) length, c .names) in
     let records : length (m .surfaces) ≤ entryLimit = omega (arith, c .names, good m ok .counts) in
@@ -209,3 +208,7 @@ tables-of-mesh m ok short =
     (rw (whole-words (joined vs) (c .vertices), whole-words (map length (m .names)) names, whole-words (joined (m .names)) (c .nameBytes))
     (rw (whole-of recordSize surfaceWords (omega arith) (λ s. refl) (m .surfaces) records, counts-from (m .polygons), eq-eqb _ _ (length-joined vs))
     (rw (eq-eqb _ _ (length-joined (m .names)), mesh-from-tables m, ok))))
+
+-- so are those of one whose canonical file is
+pub tables-of-mesh : (m : Mesh) → goodMesh m ≡ true → length (canonical m) ≤ fileLimit → isMesh (tables m) ≡ true
+tables-of-mesh m ok short = good-mesh-tables m ok (counts m entryLimit short)

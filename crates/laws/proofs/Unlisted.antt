@@ -16,22 +16,13 @@ use Rattle.format.specs.Chunks.{Chunk, sizeOf, Chunks, finished, broken, chunk}
 use Rattle.format.specs.Mesh.{Mesh, Polygon}
 use Rattle.format.specs.Bodies.{Part, points, names, polygons, tagging, surface, skipped}
 use Rattle.format.specs.Rules.{unlistedTag, Before, start, after, judge, walk, pointsOf, namesOf, surfacesOf, skippedOf, detailsOf, polygonsIn, meshOf, gives, outcome}
-use Rattle.format.proofs.Facts.{impossible, all-at}
+use Rattle.format.proofs.Facts.{impossible}
+use Rattle.format.proofs.ListedTags.{skips}
 use Rattle.format.proofs.Verdicts.{then-fine}
 use Rattle.format.proofs.Walks.{next}
 use Rattle.laws.proofs.Tiles.{inFront}
 use Rattle.laws.proofs.Walk.{walk-on}
 use Rattle.laws.proofs.Form.{outcomeOf, was-fine}
-
--- ---- unlisted tags
-
--- such a chunk is skipped, whatever stands before it and whatever it holds
-pub skips : (kind : Kind) (b : Before) (t : ℕ) (body : List ℕ) → unlistedTag kind t ≡ true → judge kind b t body ≡ fine skipped
-unfolding judge
-skips LWOB b t body u =
-    rw (not-true (t is "PNTS") (all-at _ _ 0 u), not-true (t is "SRFS") (all-at _ _ 1 u), not-true (t is "POLS") (all-at _ _ 2 u), not-true (t is "PCHS") (all-at _ _ 3 u), not-true (t is "SURF") (all-at _ _ 4 u))
-skips LWO2 b t body u =
-    rw (not-true (t is "PNTS") (all-at _ _ 0 u), not-true (t is "TAGS") (all-at _ _ 1 u), not-true (t is "POLS") (all-at _ _ 2 u), not-true (t is "PTAG") (all-at _ _ 3 u), not-true (t is "SURF") (all-at _ _ 4 u))
 
 -- ---- the walk with one chunk more
 

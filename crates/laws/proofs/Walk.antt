@@ -21,10 +21,10 @@ use Rattle.format.specs.Canonical.{stringBytes, pointBytes, polygonBytes, typeO
 use Rattle.format.specs.Written.{goodPolygon, goodNames, goodSurface}
 use Rattle.format.proofs.Facts.{every-at, all-first, all-rest, all-append}
 use Rattle.laws.proofs.Reading.{wholly, Row, none, more}
-use Rattle.laws.specs.Conditions.{word32}
 use Rattle.laws.proofs.Chunks.{isTag, shorter, reads-chunk}
 use Rattle.laws.proofs.Tiles.{inFront}
-use Rattle.laws.proofs.Bodies.{goodPoint, ends-points, good-name, ends-names, bare, good-polygon, ends-run, ends-pairs, valuesOf, ends-surface}
+use Rattle.laws.proofs.GoodPolygons.{good-polygon}
+use Rattle.laws.proofs.Bodies.{goodPoint, ends-points, good-name, ends-names, bare, ends-run, ends-pairs, valuesOf, ends-surface}
 
 -- ---- chunks judged one after the other
 
@@ -84,11 +84,10 @@ judged-pairs : (pointCount polygonCount : ℕ) (pts ns : Option ℕ) → polygon
 unfolding judge when_read_ number
 judged-pairs pointCount polygonCount pts ns few ps fits ok = wholly 0 8 (ends-pairs pointCount polygonCount (count ns) few ps fits ok)
 
-judged-surface : (b : Before) (earlier : List Name) (n : Name) (ns : List Name) (s : Surface) → goodNames earlier (n ∷ ns) ≡ true → goodSurface s ≡ true → all word32 (levels s) ≡ true
+judged-surface : (b : Before) (earlier : List Name) (n : Name) (ns : List Name) (s : Surface) → goodNames earlier (n ∷ ns) ≡ true → goodSurface s ≡ true
     → judge LWO2 b (number (spelt "SURF")) (surfaceBytes n s) ≡ fine (surface n (joined (valuesOf s)))
 unfolding judge when_read_ number goodSurface
-judged-surface b earlier n ns s names-ok ok narrow =
-    wholly 0 8 (ends-surface n s (good-name earlier n ns names-ok .no-zero) (every-at _ 2 ok) narrow (every-at _ 1 ok))
+judged-surface b earlier n ns s names-ok ok = wholly 0 8 (ends-surface n s (good-name earlier n ns names-ok .no-zero) (every-at _ 2 ok) (every-at _ 1 ok))
 
 -- ---- the chunks of a canonical file, in front of any that follow
 
@@ -173,14 +172,14 @@ surfaceParts [] ss = []
 surfaceParts (n ∷ ns) [] = []
 surfaceParts (n ∷ ns) (s ∷ ss) = (if eqb (s .defined) 1 then surface n (joined (valuesOf s)) ∷ [] else []) ++ surfaceParts ns ss
 
-pub on-surfaces : (b : Before) (earlier ns : List Name) (ss : List Surface) → goodNames earlier ns ≡ true → all goodSurface ss ≡ true → all (λ s. all word32 (levels s)) ss ≡ true
+pub on-surfaces : (b : Before) (earlier ns : List Name) (ss : List Surface) → goodNames earlier ns ≡ true → all goodSurface ss ≡ true
     → Judged b (surfaceChunks ns ss) (surfaceParts ns ss)
 unfolding surfaceChunks surfaceParts
-on-surfaces b earlier [] ss names-ok ok narrow = over
-on-surfaces b earlier (n ∷ ns) [] names-ok ok narrow = over
-on-surfaces b earlier (n ∷ ns) (s ∷ ss) names-ok ok narrow =
-    go (eqb (s .defined) 1) (judged-surface b earlier n ns s names-ok (all-first _ s ss ok) (all-first _ s ss narrow))
-    (on-surfaces b (earlier ++ (n ∷ [])) ns ss (good-name earlier n ns names-ok .rest) (all-rest _ s ss ok) (all-rest _ s ss narrow))
+on-surfaces b earlier [] ss names-ok ok = over
+on-surfaces b earlier (n ∷ ns) [] names-ok ok = over
+on-surfaces b earlier (n ∷ ns) (s ∷ ss) names-ok ok =
+    go (eqb (s .defined) 1) (judged-surface b earlier n ns s names-ok (all-first _ s ss ok))
+    (on-surfaces b (earlier ++ (n ∷ [])) ns ss (good-name earlier n ns names-ok .rest) (all-rest _ s ss ok))
   where
     go : (d : Bool) → judge LWO2 b (number (spelt "SURF")) (surfaceBytes n s) ≡ fine (surface n (joined (valuesOf s))) → Judged b (surfaceChunks ns ss) (surfaceParts ns ss)
         → Judged b ((if d then ("SURF", surfaceBytes n s) ∷ [] else []) ++ surfaceChunks ns ss) ((if d then surface n (joined (valuesOf s)) ∷ [] else []) ++ surfaceParts ns ss)

@@ -1,4 +1,4 @@
--- What the theorems ask of tables, meshes and chunks.
+-- What the theorems ask of tables and chunks.
 use Prim.Native.Nat.{ℕ, _≤_, _^_}
 use mathlib.Core.Path.{_≡_}
 use mathlib.Core.List.{List}
@@ -10,19 +10,6 @@ use Rattle.format.specs.Bytes.{number, all}
 use Rattle.format.specs.Chunks.{sizeOf, lengthOf, wellFormed}
 use Rattle.format.specs.Mesh.{Mesh, Tables, pointWords, levels}
 use Rattle.format.specs.Rules.{unlistedTag}
-
--- ---- words
-
-abbrev pub word32 : ℕ → Bool
-word32 n = ltb n (2 ^ 32)
-
--- the floats of a mesh have 32 bits
-unfoldable pub inWords : Mesh → Bool
-inWords m = all (λ p. all word32 (pointWords p)) (m .points) && all (λ s. all word32 (levels s)) (m .surfaces)
-
--- the words of the two tables that hold floats are words of 32 bits, which is their type
-unfoldable pub tableWords : Tables → Bool
-tableWords t = all word32 (t .points) && all word32 (t .records)
 
 -- ---- room
 

@@ -1,1 +1,1 @@
-// What follows from the rule book, as theorems: see proofs/, and specs/ for what they ask of tables, meshes and chunks.
+// What follows from the specification, as theorems: see proofs/, and specs/ for what they ask of tables, meshes and chunks.

@@ -16,7 +16,7 @@ use Rattle.lengths.specs.Sizes.{pairOf, pairsFrom}
 use Rattle.lengths.proofs.Adding.{column-at, column-past}
 use Rattle.output.proofs.Filling.{First}
 
--- they are the rule book's
+-- they are the specification's
 pub pairs-are : (i : ℕ) (ps : List Polygon) → joined (map pairBytes (pairsOf i ps)) ≡ pairsFrom i (map (λ p. p .surface) ps)
 unfolding pairsOf pairsFrom joined
 pairs-are i [] = refl

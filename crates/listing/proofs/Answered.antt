@@ -1,27 +1,28 @@
--- After a file was read the tables hold what the listing shows: the polygons of the mesh that the rules give it. Assumes nothing.
-use Prim.Native.Nat.{ℕ, _+_, _*_, _<_, _≤_}
+-- After a file was read the tables hold what the listing shows: the polygons of the mesh that the rules give it. What the answer is goes by the tables' lengths
+-- alone, and what was read of an input that is not too long is all of it.
+use Prim.Native.Nat.{ℕ, _+_, _*_, _<_, _≤_, min}
 use mathlib.Core.Path.{_≡_, refl, sym, ap, _∙_, subst}
 use mathlib.Core.List.{List, [], _∷_, _++_, map}
 use mathlib.Core.Bool.{Bool, true, false}
 use native.Mathlib.Omega.{arith}
-use lib.ListN.{length, length-append}
-use lib.Seq.{take-at, length-take-le}
+use lib.ListN.{length, take, length-append, length-take}
+use lib.Seq.{take-all, take-at, length-take-le}
 use borrow.Author.Tests.{lt-ltb, le-ltb}
 use Rattle.io.specs.Counts.{Counts}
 use Rattle.format.specs.Bytes.{spelt, sum, joined}
-use Rattle.format.specs.Mesh.{Polygon, Mesh, Tables, polygonWords, polygonSize, tables, needs}
+use Rattle.format.specs.Mesh.{Polygon, Mesh, Tables, pointSize, polygonWords, polygonSize, recordSize, tables, Needs, needs}
 use Rattle.format.specs.Written.{pieces, entries, polygonsFrom, vertexCounts, meshFrom}
 use Rattle.format.specs.Rules.{Outcome, refused, gives, rules}
-use Rattle.format.specs.Answer.{answer, fits, over, filled, tablesAfter}
+use Rattle.format.specs.Answer.{answer, fits, over, filled, tablesAfter, Reads}
 use Rattle.format.proofs.Facts.{length-entries}
 use Rattle.laws.proofs.Tables.{mesh-from-tables}
 use Rattle.mesh.specs.Lent.{polygonsOf}
 use Rattle.mesh.proofs.Entries.{first}
 use Rattle.output.specs.Outputs.{Wrote}
 use Rattle.reader.specs.declared.Answer.{Answer}
-use Rattle.reader.specs.Reads.{answerAs, ReadOf}
-use Rattle.listing.specs.Text.{lineEnd, listing, polygonsGiven, inputLimit, printed}
-use Rattle.listing.specs.Prints.{Prints, Held, polygonsFront, verticesFront, polygonsIn}
+use Rattle.reader.specs.Reads.{answerAs}
+use Rattle.listing.specs.Text.{lineEnd, listing, polygonsGiven, inputLimit, zeros, programTables, notRead, printed}
+use Rattle.listing.specs.Prints.{Prints, Held, polygonsFront, verticesFront, polygonsIn, PrintsInput}
 
 -- ---- a mesh's polygons in the tables
 
@@ -110,20 +111,55 @@ module _ {a : Answer} {t t′ : Tables} where
   after (refused number place) answers leaves = after-refusal number place answers
   after (gives m k d) answers leaves = after-mesh m k d answers (fits (needs m) t) refl leaves
 
-  pub after-reading : {file : List ℕ} → ReadOf file t a t′ → Answered a t t′ (rules file)
+  pub after-reading : {file : List ℕ} → Reads file t (answerAs a) t′ → Answered a t t′ (rules file)
   after-reading {file} w = after (rules file) (w .answers) (w .leaves)
+
+-- ---- the program's tables
+
+-- lent tables as long as the program's
+pub record AsLong (t : Tables) : Type 0 where
+  pub points : length (t .points) ≡ 5461 * pointSize
+  pub polygons : length (t .polygons) ≡ 4096 * polygonSize
+  pub vertices : length (t .vertices) ≡ 16384
+  pub names : length (t .names) ≡ 256
+  pub name-bytes : length (t .nameBytes) ≡ 8192
+  pub records : length (t .records) ≡ 256 * recordSize
+
+same-room : (n : Needs) (t : Tables) → AsLong t → fits n t ≡ fits n programTables
+unfolding fits programTables
+same-room n t h = rw (h .points, h .polygons, h .vertices, h .names, h .name-bytes, h .records)
+
+same-answer : (o : Outcome) (t : Tables) → AsLong t → answer o t ≡ answer o programTables
+unfolding answer
+same-answer (refused number place) t h = refl
+same-answer (gives m k d) t h = rw (same-room (needs m) t h)
+
+-- ---- the input, of which a part was read
+
+module _ (part input : List ℕ) (room : ℕ) (read : take room input ≡ part) where
+  least : min room (length input) ≡ length part
+  least = sym (length-take room input) ∙ ap (λ (l : List ℕ). length l) read
+
+  too-long : inputLimit < length part → inputLimit < length input
+  too-long more = omega (arith, least)
+
+  all-read : inputLimit < room → length part ≤ inputLimit → input ≡ part
+  all-read enough few = sym (take-all room input (omega (arith, least))) ∙ read
 
 -- ---- what the program prints
 
 module _ {out out′ : List ℕ} {next : ℕ} where
-  pub not-read : (input : List ℕ) (t : Tables) → inputLimit < length input → Wrote out 0 (spelt "not read" ++ lineEnd) out′ next → Wrote out 0 (printed input t) out′ next
+  pub not-read : {part : List ℕ} {room : ℕ} → inputLimit < length part → Wrote out 0 notRead out′ next → PrintsInput part room out out′ next
   unfolding printed
-  not-read input t long w = rw (lt-ltb inputLimit (length input) long) w
+  not-read {part} {room} more w = record { text = λ input read. rw (lt-ltb inputLimit (length input) (too-long part input room read more)) w }
 
-  pub was-read : {input : List ℕ} {t t′ : Tables} {a : Answer} → length input ≤ inputLimit → ReadOf input t a t′
-      → Wrote out 0 (listing (answerAs a) (polygonsIn a (t′ .polygons) (t′ .vertices))) out′ next → Wrote out 0 (printed input t) out′ next
+  pub was-read : {part : List ℕ} {room : ℕ} {t t′ : Tables} {a : Answer} → inputLimit < room → length part ≤ inputLimit → AsLong t → Reads part t (answerAs a) t′
+      → Wrote out 0 (listing (answerAs a) (polygonsIn a (t′ .polygons) (t′ .vertices))) out′ next → PrintsInput part room out out′ next
   unfolding printed
-  was-read {input} {t} short r w = rw (le-ltb inputLimit (length input) short) (subst (λ text. Wrote out 0 text out′ next) (after-reading r .same) w)
+  was-read {part} {room} {t} {t′} {a} enough few lent r w = record { text = λ input read. rw (all-read part input room read enough few, le-ltb inputLimit (length part) few) (subst (λ text. Wrote out 0 text out′ next) shown w) }
+    where
+      shown : listing (answerAs a) (polygonsIn a (t′ .polygons) (t′ .vertices)) ≡ listing (answer (rules part) programTables) (polygonsGiven (rules part))
+      shown = after-reading r .same ∙ ap (λ x. listing x (polygonsGiven (rules part))) (same-answer (rules part) t lent)
 
   pub counts : {text : List ℕ} {most : ℕ} → Prints out 0 text out′ next most → most ≤ length out → Counts next out′
   counts p room =

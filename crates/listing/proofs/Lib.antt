@@ -4,3 +4,4 @@ pub mod Vertices
 pub mod Lines
 pub mod Listed
 pub mod Answered
+pub mod Demand

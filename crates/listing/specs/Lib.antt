@@ -1,3 +1,4 @@
 pub mod Text
 pub mod Prints
+pub mod Listed
 pub mod Worked

@@ -7,8 +7,11 @@ use Rattle.format.specs.Bytes.{sum}
 use Rattle.format.specs.Mesh.{Polygon, polygonSize}
 use Rattle.format.specs.Written.{vertexCounts}
 use Rattle.mesh.specs.Lent.{polygonsOf}
+use Rattle.io.specs.Counts.{Counts}
 use Rattle.output.specs.Outputs.{Wrote}
 use Rattle.reader.specs.declared.Answer.{Answer}
+use Rattle.listing.specs.declared.input.Input.{Input}
+use Rattle.listing.specs.Text.{printed}
 
 -- A text was put into the output from a place on, and takes at most so many bytes; `next` is the place after it.
 pub record Prints (before : List ℕ) (at : ℕ) (text after : List ℕ) (next most : ℕ) : Type 0 where
@@ -76,3 +79,18 @@ pub record Held (a : Answer) (polygons vertices : List ℕ) : Type 0 where
 pub record ListingLent (out : List ℕ) (a : Answer) (polygons vertices : List ℕ) : Type 0 where
   pub held : a .number ≡ 0 → Held a polygons vertices
   pub room : outputSize polygons vertices ≤ length out
+
+-- ---- the program
+
+-- no more bytes were read than there was room for, or than the buffer has
+abbrev pub InputWithin : (most : ℕ) → Input → Type 0
+InputWithin most (Input.Bytes n) = n ≤ most
+InputWithin most Input.Failed = Unit
+
+abbrev pub InputCounts : (buffer : List ℕ) → Input → Type 0
+InputCounts buffer (Input.Bytes n) = Counts n buffer
+InputCounts buffer Input.Failed = Unit
+
+-- Whatever the input is of which `read` is as much as there was room for: what is to be printed for it was put into the output.
+pub record PrintsInput (read : List ℕ) (room : ℕ) (out out′ : List ℕ) (next : ℕ) : Type 0 where
+  pub text : (input : List ℕ) → take room input ≡ read → Wrote out 0 (printed input) out′ next

@@ -1,10 +1,10 @@
 -- What the program prints, as bytes.
-use Prim.Native.Nat.{ℕ, zero, suc, _+_, _/_, _%_}
+use Prim.Native.Nat.{ℕ, zero, suc, _+_, _*_, _/_, _%_}
 use mathlib.Core.List.{List, [], _∷_, _++_, map}
 use lib.Dec.{eqb, ltb}
-use lib.ListN.{length}
+use lib.ListN.{length, replicate}
 use Rattle.format.specs.Bytes.{if_then_else_, spelt, joined}
-use Rattle.format.specs.Mesh.{Polygon, Tables, Needs}
+use Rattle.format.specs.Mesh.{Polygon, pointSize, polygonSize, recordSize, Tables, lent, Needs}
 use Rattle.format.specs.Rules.{Outcome, refused, gives, rules}
 use Rattle.format.specs.Answer.{Answer, answer}
 
@@ -79,6 +79,17 @@ polygonsGiven (gives mesh skipped details) = mesh .polygons
 abbrev pub inputLimit : ℕ
 inputLimit = 65536
 
--- "input too long for the program prints `not read`"; t are the program's tables
-unfoldable pub printed : (input : List ℕ) → Tables → List ℕ
-printed input t = if ltb inputLimit (length input) then spelt "not read" ++ lineEnd else listing (answer (rules input) t) (polygonsGiven (rules input))
+-- "Its tables hold 5,461 points, 4,096 polygons, 16,384 vertices, 256 names and 8,192 name bytes; a file that needs more prints `refused 16 at 0`." There is
+-- a record for each name. The tables are empty before the reading.
+abbrev pub zeros : ℕ → List ℕ
+zeros n = replicate n 0
+
+unfoldable pub programTables : Tables
+programTables = lent (zeros (5461 * pointSize)) (zeros (4096 * polygonSize)) (zeros 16384) (zeros 256) (zeros 8192) (zeros (256 * recordSize))
+
+abbrev pub notRead : List ℕ
+notRead = spelt "not read" ++ lineEnd
+
+-- "input too long for the program prints `not read`"
+unfoldable pub printed : (input : List ℕ) → List ℕ
+printed input = if ltb inputLimit (length input) then notRead else listing (answer (rules input) programTables) (polygonsGiven (rules input))

@@ -1,19 +1,23 @@
 // Reads an object file from standard input and prints its listing.
-ghost use Rattle.format.specs.Mesh.{lent};
+ghost use Prim.Native.Nat.{_<_};
 ghost use Rattle.io.specs.Counts.{Counts};
-ghost use Rattle.output.specs.Outputs.{Wrote};
-ghost use Rattle.listing.specs.Text.{printed};
+ghost use Rattle.listing.specs.Text.{inputLimit};
+ghost use Rattle.listing.specs.Prints.{PrintsInput};
+use crate::input::Input;
+use crate::input::read_input;
 use crate::listing::put_listing;
+use libc::STDERR_FILENO;
 use libc::STDIN_FILENO;
 use libc::STDOUT_FILENO;
 use output::items::put_bytes;
 use reader::read;
 
+mod input;
 mod listing;
 mod polygons;
 mod text;
 
-// One byte more than is read, so that a longer input is seen.
+// One byte more than an input may have, so that a longer one is seen.
 const INPUT: usize = 65537;
 
 // 5,461 points, 4,096 polygons, 16,384 vertices, 256 names with their records, and 8,192 name bytes.
@@ -32,10 +36,11 @@ const RECORDS: usize = 2560;
 // 214 bytes for the counts, 93 for each polygon and 21 for each vertex: no listing is longer.
 const OUTPUT: usize = 725206;
 
-// What the program prints for its input. The tables are lent for the reading.
+// What the program prints for its input, of which as much was read as there was room for. The tables are lent for the reading.
 fn put_output(
     out: &mut [u8; OUTPUT],
     input: &[u8],
+    room: usize,
     points: &mut [u32; POINTS],
     polygons: &mut [u32; POLYGONS],
     vertices: &mut [u32; VERTICES],
@@ -43,7 +48,8 @@ fn put_output(
     name_bytes: &mut [u8; NAME_BYTES],
     records: &mut [u32; RECORDS],
 ) -> usize
-    ensures { λ r. ⌜ Wrote (now (out .entry)) 0 (printed (now (input .entry)) (lent (now (points .entry)) (now (polygons .entry)) (now (vertices .entry)) (now (names .entry)) (now («name_bytes» .entry)) (now (records .entry)))) (now (out .exit)) r ⌝ }
+    requires { ⌜ inputLimit < room ⌝ }
+    ensures { λ r. ⌜ PrintsInput (now (input .entry)) room (now (out .entry)) (now (out .exit)) r ⌝ }
     ensures { λ r. ⌜ Counts r (now (out .exit)) ⌝ }
 {
     if 65536 < input.len() {
@@ -63,7 +69,10 @@ fn put_output(
 
 fn main() {
     let mut buffer = [0u8; INPUT];
-    let length = io::read_full(STDIN_FILENO, &mut buffer);
+    let Input::Bytes(length) = read_input(STDIN_FILENO, &mut buffer) else {
+        io::write_all(STDERR_FILENO, b"listing: standard input cannot be read\n");
+        return;
+    };
     let mut points = [0u32; POINTS];
     let mut polygons = [0u32; POLYGONS];
     let mut vertices = [0u32; VERTICES];
@@ -74,6 +83,7 @@ fn main() {
     let end = put_output(
         &mut out,
         &buffer[..length],
+        buffer.len(),
         &mut points,
         &mut polygons,
         &mut vertices,
@@ -81,5 +91,10 @@ fn main() {
         &mut name_bytes,
         &mut records,
     );
-    io::write_all(STDOUT_FILENO, &out[..end]);
+    if !io::write_all(STDOUT_FILENO, &out[..end]) {
+        io::write_all(
+            STDERR_FILENO,
+            b"listing: standard output cannot be written\n",
+        );
+    }
 }

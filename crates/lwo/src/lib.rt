@@ -1,7 +1,9 @@
 // The static library for C and Rust: thin functions over the proved reader and writer. A slice is a pointer and a length in elements. Neither function has
 // a precondition, so that nothing a caller lends can break what is proved.
 ghost use Rattle.format.specs.Mesh.{lent};
-ghost use Rattle.lwo.specs.Exports.{ReadFor, WrittenFor};
+ghost use Rattle.format.specs.Answer.{Reads};
+ghost use Rattle.format.specs.Written.{Writes};
+ghost use Rattle.lwo.specs.Exports.{answerAs, writtenAs};
 use reader::read;
 use writer::write;
 
@@ -37,7 +39,7 @@ pub extern "C" fn lwo_read(
     name_bytes: &mut [u8],
     records: &mut [u32],
 ) -> LwoAnswer
-    ensures { λ r. ⌜ ReadFor (now (file .entry)) (lent (now (points .entry)) (now (polygons .entry)) (now (vertices .entry)) (now (names .entry)) (now («name_bytes» .entry)) (now (records .entry))) r (lent (now (points .exit)) (now (polygons .exit)) (now (vertices .exit)) (now (names .exit)) (now («name_bytes» .exit)) (now (records .exit))) ⌝ }
+    ensures { λ r. ⌜ Reads (now (file .entry)) (lent (now (points .entry)) (now (polygons .entry)) (now (vertices .entry)) (now (names .entry)) (now («name_bytes» .entry)) (now (records .entry))) (answerAs r) (lent (now (points .exit)) (now (polygons .exit)) (now (vertices .exit)) (now (names .exit)) (now («name_bytes» .exit)) (now (records .exit))) ⌝ }
 {
     let a = read(file, points, polygons, vertices, names, name_bytes, records);
     LwoAnswer {
@@ -63,7 +65,7 @@ pub extern "C" fn lwo_write(
     records: &[u32],
     out: &mut [u8],
 ) -> LwoWritten
-    ensures { λ r. ⌜ WrittenFor (lent (now (points .entry)) (now (polygons .entry)) (now (vertices .entry)) (now (names .entry)) (now («name_bytes» .entry)) (now (records .entry))) (now (out .entry)) r (now (out .exit)) ⌝ }
+    ensures { λ r. ⌜ Writes (lent (now (points .entry)) (now (polygons .entry)) (now (vertices .entry)) (now (names .entry)) (now («name_bytes» .entry)) (now (records .entry))) (now (out .entry)) (writtenAs r) (now (out .exit)) ⌝ }
 {
     let w = write(points, polygons, vertices, names, name_bytes, records, out);
     LwoWritten {

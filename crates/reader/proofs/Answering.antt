@@ -1,13 +1,11 @@
--- From the first pass, the test of room and the second pass to the rule book's answer and tables. Assumes nothing.
+-- From the first pass, the test of room and the second pass to the specification's answer and tables.
 use mathlib.Core.Path.{_≡_, sym, ap, _∙_}
 use mathlib.Core.List.{List, map}
 use mathlib.Core.Bool.{Bool, true, false}
 use Prim.Native.Nat.{ℕ, _≤_}
-use lib.Dec.{ltb}
 use lib.ListN.{length, drop}
-use borrow.Author.Tests.{ltb-false}
 use Rattle.format.specs.declared.Kind.{Kind}
-use Rattle.format.specs.Bytes.{sum}
+use Rattle.format.specs.Bytes.{byte, all, sum}
 use Rattle.format.specs.Limits.{fileLimit}
 use Rattle.format.specs.Refusals.{numberOf}
 use Rattle.format.specs.Items.{fine}
@@ -15,28 +13,24 @@ use Rattle.format.specs.Chunks.{chunks}
 use Rattle.format.specs.Mesh.{Tables}
 use Rattle.format.specs.Bodies.{Part}
 use Rattle.format.specs.Rules.{start, walk, form, judged, meshOf, skippedOf, detailsOf, gives, outcome, rules}
-use Rattle.format.specs.Answer.{fits, answer, tablesAfter}
-use Rattle.format.proofs.Verdicts.{Known, known, stopped, then-fine, passed, same-fine}
+use Rattle.format.specs.Answer.{fits, answer, tablesAfter, Reads}
+use Rattle.format.proofs.Verdicts.{Known, known, stopped, then-fine, same-fine}
+use Rattle.format.proofs.Walks.{within-limit}
 use Rattle.wire.specs.declared.Refusal.{Refusal}
 use Rattle.reader.specs.declared.Answer.{Answer}
 use Rattle.survey.specs.declared.counts.Totals.{Totals}
 use Rattle.survey.specs.declared.first.First.{First}
 use Rattle.survey.specs.Answers.{totalsOf, needsIn, FirstOf}
 use Rattle.tables.specs.Fills.{TablesRoom, TablesPut}
-use Rattle.reader.specs.Reads.{answerAs, refusedWith, withCounts, ReadOf}
+use Rattle.reader.specs.Reads.{answerAs, refusedWith, withCounts}
 
 abbrev counts : Kind × List Part → Kind × Totals
 counts f = (f .0, totalsOf (f .0) (f .1))
 
--- a file that has a kind is within the limit
-within : (file : List ℕ) {kind : Kind} → form file ≡ fine kind → length file ≤ fileLimit
-unfolding form
-within file e = ltb-false _ _ (passed (ltb fileLimit (length file)) _ _ _ e .0)
-
 module _ {file : List ℕ} {t : Tables} {a : Answer} where
-  pub read-refused : {f : Refusal} → FirstOf file (First.Refused f) → answerAs a ≡ refusedWith (numberOf (f .why)) (f .at) → ReadOf file t a t
+  pub read-refused : {f : Refusal} → all byte file ≡ true → FirstOf file (First.Refused f) → answerAs a ≡ refusedWith (numberOf (f .why)) (f .at) → Reads file t (answerAs a) t
   unfolding rules outcome answer tablesAfter
-  read-refused w e = let j = stopped (judged file) counts (w .is) in record { answers = e ∙ rw j; leaves = rw j }
+  read-refused bytes w e = let j = stopped (judged file) counts (w .is) in record { bytes = bytes; answers = e ∙ rw j; leaves = rw j }
 
 module _ {file : List ℕ} {kind : Kind} {totals : Totals} (w : FirstOf file (First.Counts kind totals)) where
   found : Known (judged file) counts (kind, totals)
@@ -62,7 +56,7 @@ module _ {file : List ℕ} {kind : Kind} {totals : Totals} (w : FirstOf file (Fi
   -- its header and its chunks were judged fine
   few : length file ≤ fileLimit
   unfolding judged
-  few = within file (then-fine (form file) _ judged-is .1)
+  few = within-limit file (then-fine (form file) _ judged-is .1)
 
   walked : walk kind start 12 (chunks (drop 12 file)) ≡ fine parts
   unfolding judged
@@ -75,18 +69,19 @@ module _ {file : List ℕ} {kind : Kind} {totals : Totals} (w : FirstOf file (Fi
   pub tables-room : {t : Tables} {b : Bool} → b ≡ fits (needsIn totals) t → b ≡ true → TablesRoom kind file totals t
   tables-room e room = record { parts = parts; sound = walked; few = few; counted = totals-are; roomy = sym e ∙ room }
 
-  module _ {t : Tables} {a : Answer} {b : Bool} (e : b ≡ fits (needsIn totals) t) where
-    pub read-accepted : {t′ : Tables} → b ≡ true → TablesPut kind file t t′ → answerAs a ≡ withCounts 0 totals → ReadOf file t a t′
+  module _ {t : Tables} {a : Answer} {b : Bool} (bytes : all byte file ≡ true) (e : b ≡ fits (needsIn totals) t) where
+    pub read-accepted : {t′ : Tables} → b ≡ true → TablesPut kind file t t′ → answerAs a ≡ withCounts 0 totals → Reads file t (answerAs a) t′
     unfolding answer tablesAfter totalsOf
     read-accepted room p says =
         let roomy : fits (needsIn (totalsOf kind parts)) t ≡ true = ap (λ z. fits (needsIn z) t) (sym totals-are) ∙ sym e ∙ room in
         record {
+          bytes = bytes;
           answers = says ∙ ap (withCounts 0) totals-are ∙ rw (mesh-is, roomy);
           leaves = p .put parts walked ∙ rw (mesh-is, roomy);
         }
 
-    pub read-no-room : b ≡ false → answerAs a ≡ withCounts 16 totals → ReadOf file t a t
+    pub read-no-room : b ≡ false → answerAs a ≡ withCounts 16 totals → Reads file t (answerAs a) t
     unfolding answer tablesAfter totalsOf
     read-no-room none says =
         let short : fits (needsIn (totalsOf kind parts)) t ≡ false = ap (λ z. fits (needsIn z) t) (sym totals-are) ∙ sym e ∙ none in
-        record { answers = says ∙ ap (withCounts 16) totals-are ∙ rw (mesh-is, short); leaves = rw (mesh-is, short) }
+        record { bytes = bytes; answers = says ∙ ap (withCounts 16) totals-are ∙ rw (mesh-is, short); leaves = rw (mesh-is, short) }

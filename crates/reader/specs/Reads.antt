@@ -1,10 +1,6 @@
--- The contract of `read`: whatever the file and the tables are, its answer and what it leaves in the tables are the rule book's.
-use mathlib.Core.Path.{_≡_}
-use mathlib.Core.List.{List}
+-- The answer of `read`, field by field, as the specification's.
 use Prim.Native.Nat.{ℕ}
-use Rattle.format.specs.Mesh.{Tables}
-use Rattle.format.specs.Rules.{rules}
-use Rattle.format.specs.Answer.{Answer as Answered, noNeeds, answer, tablesAfter}
+use Rattle.format.specs.Answer.{Answer as Answered, noNeeds}
 use Rattle.reader.specs.declared.Answer.{Answer}
 use Rattle.survey.specs.declared.counts.Totals.{Totals}
 use Rattle.survey.specs.Answers.{needsIn}
@@ -23,8 +19,3 @@ refusedWith number place = record { number = number; place = place; needs = noNe
 
 abbrev pub withCounts : (number : ℕ) → Totals → Answered
 withCounts number t = record { number = number; place = 0; needs = needsIn t; skipped = t .skipped; details = t .details }
-
--- the tables t are lent, and come back as t′
-pub record ReadOf (file : List ℕ) (t : Tables) (a : Answer) (t′ : Tables) : Type 0 where
-  pub answers : answerAs a ≡ answer (rules file) t
-  pub leaves : t′ ≡ tablesAfter (rules file) t

@@ -1,7 +1,8 @@
 // Reading a file into lent tables: the first pass, the test of room, the second pass, and the answer. Whatever is lent, the answer and the tables are the
-// rule book's.
+// specification's.
 ghost use Rattle.format.specs.Mesh.{lent};
-ghost use Rattle.reader.specs.Reads.{ReadOf};
+ghost use Rattle.format.specs.Answer.{Reads};
+ghost use Rattle.reader.specs.Reads.{answerAs};
 use crate::answers::refused;
 use crate::answers::with_counts;
 use crate::room::has_room;
@@ -35,7 +36,7 @@ pub fn read(
     name_bytes: &mut [u8],
     records: &mut [u32],
 ) -> Answer
-    ensures { λ r. ⌜ ReadOf (now (file .entry)) (lent (now (points .entry)) (now (polygons .entry)) (now (vertices .entry)) (now (names .entry)) (now («name_bytes» .entry)) (now (records .entry))) r (lent (now (points .exit)) (now (polygons .exit)) (now (vertices .exit)) (now (names .exit)) (now («name_bytes» .exit)) (now (records .exit))) ⌝ }
+    ensures { λ r. ⌜ Reads (now (file .entry)) (lent (now (points .entry)) (now (polygons .entry)) (now (vertices .entry)) (now (names .entry)) (now («name_bytes» .entry)) (now (records .entry))) (answerAs r) (lent (now (points .exit)) (now (polygons .exit)) (now (vertices .exit)) (now (names .exit)) (now («name_bytes» .exit)) (now (records .exit))) ⌝ }
 {
     match first_pass(file) {
         First::Refused(f) => refused(f),

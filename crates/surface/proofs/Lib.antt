@@ -1,9 +1,7 @@
 mod Quotient
 mod Patterns
 mod Valuing
-mod Nesting
-mod Blocks
-mod Surfacing
-mod Recording
+mod SubChunks
 mod Settling
-mod Bodied
+mod ValueWalk
+mod SurfaceBody

@@ -130,7 +130,7 @@ level-bits (pos zero) f = refl
 level-bits (pos (suc n)) f = bits-are false (suc n) (zero-lt-suc n) (omega (arith, f .sfits)) ∙ zero-add (magnitude (suc n))
 level-bits (negsuc n) f = bits-are true (suc n) (zero-lt-suc n) (omega (arith, f .sfits))
 
--- ---- the two levels of the rule book
+-- ---- the two levels of the specification
 
 pub level-of : (z : ℤ) → SFits w16 z → LevelOf z (div binary32 (ofInt binary32 z) (ofBits binary32 1132462080))
 unfolding bits256

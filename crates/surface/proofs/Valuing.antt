@@ -15,7 +15,7 @@ use Rattle.format.specs.declared.Fault.the-variants.{WrongLength, ItemCut, NotF
 use Rattle.format.specs.Bytes.{number, finite, over255}
 use Rattle.format.specs.Items.{fine, fault, _then_, Reader, _>>=_, give, item, u2, i2, u4, float, vx}
 use Rattle.format.specs.Chunks.{fixed}
-use Rattle.format.specs.Surfaces.{Value as Words, value, unlisted, level, floatLevel, byteColour, shortLevel, longLevel, flags, lwobValue, block, floatColour, envelopedLevel, sideNumber, side, lwo2Value}
+use Rattle.format.specs.Surfaces.{Value as Words, value, unlisted, level, floatLevel, byteColour, shortLevel, longLevel, flags, lwobValue, floatColour, envelopedLevel, sideNumber, side, lwo2Value}
 use Rattle.format.specs.Said.{itself, nothing, Says, ReadsAt, JudgedAt, taking, got}
 use Rattle.format.proofs.Saying.{exact, given, good, bad, was-good, used-up, left-over, faulty, wrong-length, not-judged, judged-on, judged-off, judged-length}
 use Rattle.wire.specs.declared.Refusal.{Refusal}
@@ -110,7 +110,7 @@ module _ {s : List ℕ} {head : ℕ} where
 
   -- from the envelope on
   module _ {at : ℕ} (v : Value) where
-    pub envelope-cut : {p : ℕ} → Says vx itself s at (fault ItemCut p) → RestAt (envelopeAfter v) head s at (Valued.Stop (record { why = ItemCut; at = p }))
+    pub envelope-cut : {why : Fault} {p : ℕ} → Says vx itself s at (fault why p) → RestAt (envelopeAfter v) head s at (Valued.Stop (record { why = why; at = p }))
     envelope-cut w = record { judged = judged-off _ w; known = tt }
 
     pub bytes-left : {e next : ℕ} → Says vx itself s at (got s e next) → next < length s → RestAt (envelopeAfter v) head s at (Valued.Stop (record { why = WrongLength; at = head }))
@@ -177,13 +177,9 @@ module _ (t : ℕ) where
   unfolding lwo2Value number
   lwo2-side e = rw e
 
-  pub lwo2-block : t ≡ 0x424C_4F4B → lwo2Value t ≡ block
+  pub lwo2-unlisted : (t ≡ colourTag → ⊥) → level t ≡ false → (t ≡ sideTag → ⊥) → lwo2Value t ≡ unlisted
   unfolding lwo2Value number
-  lwo2-block e = rw e
-
-  pub lwo2-unlisted : (t ≡ colourTag → ⊥) → level t ≡ false → (t ≡ sideTag → ⊥) → (t ≡ 0x424C_4F4B → ⊥) → lwo2Value t ≡ unlisted
-  unfolding lwo2Value number
-  lwo2-unlisted c l n b = rw (ne-eqb t colourTag c, l, ne-eqb t sideTag n, ne-eqb t 0x424C_4F4B b)
+  lwo2-unlisted c l n = rw (ne-eqb t colourTag c, l, ne-eqb t sideTag n)
 
   pub lwob-level : (w : Shading) → t ≡ levelTag w → lwobValue t ≡ shortLevel (levelTag w)
   lwob-level w e = rw e (by w)

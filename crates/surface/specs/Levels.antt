@@ -22,7 +22,7 @@ abbrev pub exactBits : ℤ → ℕ
 exactBits (pos n) = magnitude n
 exactBits (negsuc k) = 2 ^ 31 + magnitude (suc k)
 
--- "n divided by 256, which is exact": the rule book's bits, and these in whole numbers
+-- "n divided by 256, which is exact": the specification's bits, and these in whole numbers
 pub record LevelOf (z : ℤ) (x : Float) : Type 0 where
   pub known : HasBits x
   pub is : bits x ≡ over256 z

@@ -1,3 +1,4 @@
 pub mod Levels
 pub mod Values
+pub mod Nesting
 pub mod Records

@@ -1,22 +1,20 @@
--- What the answers on a SURF's sub-chunks say, in the rule book's words.
-use Prim.Native.Nat.{ℕ, _+_, _≤_}
+-- What the answers on a SURF's sub-chunks say, in the specification's words.
+use Prim.Native.Nat.{ℕ, _+_}
 use mathlib.Core.List.{List, [], _∷_}
-use lib.ListN.{length}
 use Rattle.format.specs.declared.Kind.{Kind}
 use Rattle.format.specs.Items.{Verdict, fine, fault, Got, Reader, _>>=_, give, float, vx}
 use Rattle.format.specs.Chunks.{sub}
-use Rattle.format.specs.Surfaces.{Value as Words, value, valueOf, nested}
+use Rattle.format.specs.Surfaces.{Value as Words, value, valueOf}
 use Rattle.format.specs.Bodies.{surfaceName}
-use Rattle.format.specs.Said.{got, itself, Says, Keeps, taking, JudgedAt}
+use Rattle.format.specs.Said.{got, itself, Keeps, taking, JudgedAt}
 use Rattle.wire.specs.declared.Refusal.{Refusal}
 use Rattle.wire.specs.declared.Step.{Step}
-use Rattle.wire.specs.declared.Checked.{Checked}
 use Rattle.wire.specs.declared.cursor.Cursor.{Cursor}
 use Rattle.wire.specs.Answers.{StepAt}
 use Rattle.surface.specs.declared.value.Shading.{Shading}
 use Rattle.surface.specs.declared.value.Value.{Value}
 use Rattle.surface.specs.declared.value.Valued.{Valued}
-use Rattle.surface.specs.declared.body.Sub.{Sub}
+use Rattle.surface.specs.declared.record.Sub.{Sub}
 use Rattle.surface.specs.Levels.{HasBits, bits}
 
 -- ---- one value
@@ -44,7 +42,7 @@ longTag Shading.Specular = 0x5653_5043  -- VSPC
 longTag Shading.Reflection = 0x5652_464C  -- VRFL
 longTag Shading.Transparency = 0x5654_524E  -- VTRN
 
--- what a value is in the rule book
+-- what a value is in the specification
 abbrev pub wordsOf : Value → List Words
 wordsOf (Value.Colour r g b) = value colourTag (bits r ∷ bits g ∷ bits b ∷ [])
 wordsOf (Value.Level w x) = value (levelTag w) (bits x ∷ [])
@@ -87,25 +85,6 @@ blueAfter r g = do b ← float; envelope ← vx; give (value colourTag (r ∷ g 
 
 abbrev pub greenAfter : (r : ℕ) → Reader (List Words)
 greenAfter r = do g ← float; b ← float; envelope ← vx; give (value colourTag (r ∷ g ∷ b ∷ []))
-
--- ---- nesting
-
--- nesting gives no values
-abbrev pub nestedAs : List ℕ → Step → Verdict (Got (List Words))
-nestedAs s (Step.At c) = got s [] (c .at)
-nestedAs s (Step.Stop f) = fault (f .why) (f .at)
-
-abbrev pub blockAs : Checked → Verdict (List Words)
-blockAs Checked.Fine = fine []
-blockAs (Checked.Stop f) = fault (f .why) (f .at)
-
-abbrev pub StepEnds : List ℕ → Step → Type 0
-StepEnds s (Step.At c) = length s ≤ c .at
-StepEnds s (Step.Stop f) = Unit
-
-pub record NestedAt (depth : ℕ) (s : List ℕ) (at : ℕ) (answer : Step) : Type 0 where
-  pub says : Says (nested depth) itself s at (nestedAs s answer)
-  pub ends : StepEnds s answer
 
 -- ---- sub-chunks
 

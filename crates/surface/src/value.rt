@@ -4,19 +4,19 @@ ghost use mathlib.Core.Path.{_≡_};
 ghost use mathlib.Core.Bool.{true, _||_};
 ghost use Prim.Native.Nat.{_+_, _≤_};
 ghost use lib.ListN.{length};
-ghost use Rattle.format.specs.Surfaces.{level, floatLevel, byteColour, shortLevel, longLevel, flags, lwobValue, floatColour, envelopedLevel, sideNumber, side, block, lwo2Value};
+ghost use Rattle.format.specs.Surfaces.{level, floatLevel, byteColour, shortLevel, longLevel, flags, lwobValue, floatColour, envelopedLevel, sideNumber, side, lwo2Value, valueOf};
 ghost use Rattle.surface.specs.Levels.{HasBits, bits};
 ghost use Rattle.surface.specs.Values.{colourTag, flagTag, sideTag, levelTag, longTag, ValueKnown, ValuedAt, RestAt, envelopeAfter, blueAfter, greenAfter};
-use crate::block::block;
 use crate::level::colour;
 use crate::level::level;
 use format::Fault;
-use wire::Checked;
+use format::Kind;
 use wire::Refusal;
 use wire::cursor::Cursor;
 use wire::cursor::Item;
 use wire::cursor::Number;
 use wire::cursor::Signed;
+use wire::cursor::fault_of;
 use wire::cursor::left;
 
 const COLR: u32 = 0x434F_4C52;
@@ -44,8 +44,6 @@ const VTRN: u32 = 0x5654_524E;
 const FLAG: u32 = 0x464C_4147;
 
 const SIDE: u32 = 0x5349_4445;
-
-const BLOK: u32 = 0x424C_4F4B;
 
 // The five levels beside the colour.
 pub enum Shading {
@@ -205,7 +203,7 @@ fn flags(s: &[u8], head: usize) -> Valued
     Valued::Got(Value::Flags(n))
 }
 
-pub fn lwob_value(s: &[u8], head: usize, tag: u32) -> Valued
+fn lwob_value(s: &[u8], head: usize, tag: u32) -> Valued
     requires { ⌜ head + 6 ≤ length (now s) ⌝ }
     ensures { λ r. ⌜ ValuedAt (lwobValue tag) head (now (s .entry)) r ⌝ }
 {
@@ -232,9 +230,10 @@ fn enveloped(s: &[u8], head: usize, c: Cursor, value: Value) -> Valued
     ensures { λ r. ⌜ RestAt (envelopeAfter value) head (now (s .entry)) (c .at) r ⌝ }
 {
     let at = c.at;
-    let Number::Got(_, next) = c.vx(s) else {
+    let read = c.vx(s);
+    let Item::Got(_, next) = read else {
         return Valued::Stop(Refusal {
-            why: Fault::ItemCut,
+            why: fault_of(read),
             at,
         });
     };
@@ -338,17 +337,7 @@ fn side(s: &[u8], head: usize) -> Valued
     }
 }
 
-fn textures(s: &[u8], head: usize) -> Valued
-    requires { ⌜ head + 6 ≤ length (now s) ⌝ }
-    ensures { λ r. ⌜ ValuedAt block head (now (s .entry)) r ⌝ }
-{
-    match block(s, head) {
-        Checked::Fine => Valued::Got(Value::Nothing),
-        Checked::Stop(f) => Valued::Stop(f),
-    }
-}
-
-pub fn lwo2_value(s: &[u8], head: usize, tag: u32) -> Valued
+fn lwo2_value(s: &[u8], head: usize, tag: u32) -> Valued
     requires { ⌜ head + 6 ≤ length (now s) ⌝ }
     ensures { λ r. ⌜ ValuedAt (lwo2Value tag) head (now (s .entry)) r ⌝ }
 {
@@ -361,8 +350,17 @@ pub fn lwo2_value(s: &[u8], head: usize, tag: u32) -> Valued
     if tag == SIDE {
         return side(s, head);
     }
-    if tag == BLOK {
-        return textures(s, head);
-    }
     Valued::Got(Value::Nothing)
+}
+
+// ---- both kinds of file
+
+pub fn value_of(s: &[u8], head: usize, tag: u32, kind: Kind) -> Valued
+    requires { ⌜ head + 6 ≤ length (now s) ⌝ }
+    ensures { λ r. ⌜ ValuedAt (valueOf kind tag) head (now (s .entry)) r ⌝ }
+{
+    match kind {
+        Kind::LWOB => lwob_value(s, head, tag),
+        Kind::LWO2 => lwo2_value(s, head, tag),
+    }
 }

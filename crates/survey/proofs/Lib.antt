@@ -4,4 +4,5 @@ pub mod Stepping
 pub mod Tallying
 pub mod Standing
 pub mod Surveying
+pub mod NeedsBound
 pub mod Forming

@@ -1,4 +1,4 @@
--- What the answers on chunks and on files say, in the rule book's words. `s` is a chunk's bytes from its tag up to its body's end.
+-- What the answers on chunks and on files say, in the specification's words. `s` is a chunk's bytes from its tag up to its body's end.
 use Prim.Native.Nat.{ℕ, _+_, _≤_}
 use mathlib.Core.Path.{_≡_}
 use mathlib.Core.List.{List, map}

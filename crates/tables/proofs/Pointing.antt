@@ -12,9 +12,9 @@ use Rattle.format.specs.Bodies.{Part}
 use Rattle.format.specs.Rules.{Before, judge, pointsOf}
 use Rattle.format.proofs.Facts.{impossible}
 use Rattle.format.proofs.Puts.{put-none}
-use Rattle.fill.specs.Puts.{PointsPut}
+use Rattle.fill.specs.Puts.{PointsRoom, PointsPut}
 use Rattle.fill.proofs.Words.{points-length}
-use Rattle.tables.specs.Fills.{pointsIn, ChunkPut}
+use Rattle.tables.specs.Fills.{pointsIn, ChunkRoom, ChunkPut}
 use Rattle.tables.proofs.Making.{holds-points, always}
 
 -- ---- a PNTS
@@ -24,6 +24,12 @@ unfolding pointsOf
 chunk-length kind b t s part e j =
     let p = holds-points kind e .each b (drop 8 s) part j in
     rw (p .part-is) (points-length kind (drop 8 s) (p .of) (p .sound) ∙ ap (λ n. n / 4) (length-drop 8 s))
+
+pub chunk-room : {kind : Kind} {t : ℕ} {s table : List ℕ} {m : ℕ} → t is "PNTS" ≡ true → ChunkRoom pointsIn kind t s table m → PointsRoom s table m
+unfolding pointsOf
+chunk-room {kind} {t} {s} e r =
+    let p = holds-points kind e .each (r .before) (drop 8 s) (r .part) (r .sound) in
+    record { kind = kind; listed = p .of; sound = p .sound; fits = rw (p .part-is) at (r .fits) }
 
 pub chunk-points : {kind : Kind} {t : ℕ} {s table : List ℕ} {m : ℕ} {table′ : List ℕ} {next : ℕ} → t is "PNTS" ≡ true → PointsPut s table m table′ → next ≡ m + (length s - 8) / 4 → ChunkPut pointsIn kind t s table m table′ next
 unfolding pointsOf

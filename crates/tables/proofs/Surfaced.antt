@@ -7,15 +7,16 @@ use native.Mathlib.Omega.{arith}
 use lib.ListN.{length, take, drop, length-take, length-drop}
 use Rattle.format.specs.declared.Kind.{Kind}
 use Rattle.format.specs.declared.Kind.the-variants.{LWOB, LWO2}
+use Rattle.format.specs.declared.Container.the-variants.{Surf}
 use Rattle.format.specs.declared.Fault.the-variants.{WrongLength}
 use Rattle.format.specs.Bytes.{_is_, empty}
-use Rattle.format.specs.Items.{fine, Got, whole, _>>=_, many, string}
-use Rattle.format.specs.Chunks.{sub}
+use Rattle.format.specs.Items.{fine, Got, _then_, whole, _>>=_, string}
 use Rattle.format.specs.Mesh.{Name}
-use Rattle.format.specs.Surfaces.{Value, valueOf}
+use Rattle.format.specs.Surfaces.{Value, nested, surfaceDepth}
 use Rattle.format.specs.Bodies.{Part, surface, surfaceName, surfaceBody}
 use Rattle.format.specs.Rules.{Before, judge, surfacesOf}
 use Rattle.format.specs.Written.{pieces}
+use Rattle.format.specs.Said.{Sound}
 use Rattle.format.proofs.Facts.{impossible}
 use Rattle.format.proofs.Indexed.{part}
 use Rattle.format.proofs.Saying.{exactly}
@@ -25,7 +26,7 @@ use Rattle.wire.specs.declared.cursor.Text.{Text}
 use Rattle.wire.specs.Answers.{TextAt}
 use Rattle.surface.specs.declared.record.Record.{Record}
 use Rattle.surface.specs.Records.{surfaceOf, RecordAt}
-use Rattle.tables.specs.Listed.{withRecord, SurfacesPut}
+use Rattle.tables.specs.Listed.{withRecord, ChunkSound, SurfacesPut}
 use Rattle.tables.proofs.Making.{holds-surface, always}
 
 -- ---- the name that a SURF body starts with
@@ -53,7 +54,7 @@ starts kind body e =
     let x = then-fine (surfaceBody kind 8 body) _ e in
     let y = same-fine (chosen (empty (x .0 .left)) (fine (x .0 .value)) WrongLength 0 (x .2) .1) in
     let n = then-fine (surfaceName kind 8 body) _ (x .1) in
-    let v = then-fine (many (sub (valueOf kind)) (n .0 .next) (n .0 .left)) _ (n .2) in
+    let v = then-fine (nested surfaceDepth (Surf kind) (n .0 .next) (n .0 .left)) _ (n .2) in
     let name-is = same-bytes (ap (λ g. g .value) (same-fine (v .2)) ∙ y) in
     let s = starts-name kind body (n .0) (n .1) in
     record { got = s .got; reads = s .reads; value-is = s .value-is ∙ name-is }
@@ -81,27 +82,30 @@ no-surfaces kind b t body part other j =
     })
     .each body part j
 
+-- ---- a SURF that was judged fine
+
+module _ {kind : Kind} {t : ℕ} {s : List ℕ} (e : t is "SURF" ≡ true) where
+  pub sound-body : ChunkSound kind t s → Sound (whole 0 (surfaceBody kind) 8 (drop 8 s))
+  sound-body c = let x = holds-surface kind e .each (c .before) (drop 8 s) (c .part) (c .sound) in record { value = surface (x .of .0) (x .of .1); is = x .sound }
+
+  pub never-open : ChunkSound kind t s → TextAt s 8 Text.Open → ⊥
+  never-open c w =
+      let x = holds-surface kind e .each (c .before) (drop 8 s) (c .part) (c .sound) in
+      impossible (cc (sym (exactly (w .reads .says)) ∙ starts kind (drop 8 s) (x .sound) .reads))
+
 -- ---- what is put
 
 module _ {kind : Kind} {t : ℕ} {s lengths bytes records : List ℕ} where
   pub put-nothing : t is "SURF" ≡ false → SurfacesPut kind t s lengths bytes records records
   put-nothing e = record { put = λ b part j. rw (no-surfaces kind b t (drop 8 s) part e j) refl }
 
-  module _ (e : t is "SURF" ≡ true) where
-    pub never-open : TextAt s 8 Text.Open → {records′ : List ℕ} → SurfacesPut kind t s lengths bytes records records′
-    never-open w = record {
+  module _ (e : t is "SURF" ≡ true) {n : ℕ} {c : Cursor} (w : TextAt s 8 (Text.Got n c)) where
+    pub put-surface : {r : Record} {records′ : List ℕ} → RecordAt kind s r
+        → records′ ≡ withRecord (take (8 + n - 8) (drop 8 s)) (surfaceOf r) (pieces lengths bytes) records → SurfacesPut kind t s lengths bytes records records′
+    unfolding surfacesOf _then_
+    put-surface r p = record {
       put = λ b part j.
           let x = holds-surface kind e .each b (drop 8 s) part j in
-          let y = starts kind (drop 8 s) (x .sound) in
-          impossible (cc (sym (exactly (w .reads .says)) ∙ y .reads));
+          let is-record = same-fine (rw (x .sound) at (r .judged .is)) in
+          rw (x .part-is) (p ∙ rw (name-is w (starts kind (drop 8 s) (x .sound)), is-record) refl);
     }
-
-    module _ {n : ℕ} {c : Cursor} (w : TextAt s 8 (Text.Got n c)) where
-      pub put-surface : {r : Record} {records′ : List ℕ} → RecordAt kind s r
-          → records′ ≡ withRecord (take (8 + n - 8) (drop 8 s)) (surfaceOf r) (pieces lengths bytes) records → SurfacesPut kind t s lengths bytes records records′
-      unfolding surfacesOf
-      put-surface r p = record {
-        put = λ b part j.
-            let x = holds-surface kind e .each b (drop 8 s) part j in
-            rw (x .part-is) (p ∙ rw (name-is w (starts kind (drop 8 s) (x .sound)), r .is (x .of .0) (x .of .1) (x .sound)) refl);
-      }

@@ -35,6 +35,12 @@ pub record ListedRoom (lengths bytes records : List ℕ) : Type 0 where
   pub inside : sum lengths ≤ length bytes
   pub fits : length lengths * recordSize ≤ length records
 
--- the records after a chunk that was judged fine
+-- the chunk was judged fine
+pub record ChunkSound (kind : Kind) (tag : ℕ) (s : List ℕ) : Type 0 where
+  pub before : Before
+  pub part : Part
+  pub sound : judge kind before tag (drop 8 s) ≡ fine part
+
+-- the records after it
 pub record SurfacesPut (kind : Kind) (tag : ℕ) (s lengths bytes records records′ : List ℕ) : Type 0 where
   pub put : (before : Before) (part : Part) → judge kind before tag (drop 8 s) ≡ fine part → records′ ≡ withSurfaces kind (pieces lengths bytes) (surfacesOf part) records

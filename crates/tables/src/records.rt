@@ -3,7 +3,7 @@ ghost use mathlib.Core.Path.{_≡_};
 ghost use Rattle.format.specs.Written.{pieces};
 ghost use Rattle.surface.specs.Records.{Known, surfaceOf};
 ghost use Rattle.tables.specs.Fills.{RecordsRoom, RecordsPut};
-ghost use Rattle.tables.specs.Listed.{withRecord, ListedRoom, SurfacesPut};
+ghost use Rattle.tables.specs.Listed.{withRecord, ListedRoom, ChunkSound, SurfacesPut};
 use fill::records::put_missing;
 use format::Kind;
 use surface::record::Record;
@@ -37,6 +37,7 @@ fn put_record(name: &[u8], r: Record, lengths: &[u32], bytes: &[u8], records: &m
 
 // Stores a chunk's record at its name, where the chunk is a SURF. The name is the string that its body starts with.
 fn put_chunk(s: &[u8], kind: Kind, tag: u32, lengths: &[u32], bytes: &[u8], records: &mut [u32])
+    requires { ⌜ ChunkSound kind tag (now s) ⌝ }
     requires { ⌜ ListedRoom (now lengths) (now bytes) (now records) ⌝ }
     ensures { λ _. ⌜ SurfacesPut kind tag (now (s .entry)) (now (lengths .entry)) (now (bytes .entry)) (now (records .entry)) (now (records .exit)) ⌝ }
 {

@@ -1,3 +1,2 @@
 mod Halves
 pub mod Headers
-pub mod Wholes

@@ -1,10 +1,11 @@
--- What the answers of items and headers say, in the rule book's words. `s` is the lent slice, and `at` the place that was read at.
+-- What the answers of items and headers say, in the specification's words. `s` is the lent slice, and `at` the place that was read at.
 use Prim.Native.Nat.{ℕ, _+_, _≤_, _<_, _^_}
 use mathlib.Core.Path.{_≡_}
 use mathlib.Core.Bool.{true}
 use mathlib.Core.List.{List}
 use lib.ListN.{length, take, drop}
 use lib.IntN.{ℤ}
+use Rattle.format.specs.declared.Fault.{Fault}
 use Rattle.format.specs.declared.Fault.the-variants.{BadHeader, ItemCut, StringOpen}
 use Rattle.format.specs.Bytes.{absolute, negative, between, all}
 use Rattle.format.specs.Items.{Verdict, fine, fault, Got, Reader, i2, string}
@@ -54,9 +55,14 @@ abbrev pub itemAs : List ℕ → ℕ → Item → Verdict (Got ℕ)
 itemAs s at (Item.Got v c) = got s v (c .at)
 itemAs s at (Item.Stop why) = fault why at
 
--- a judged item read by r, of so many bytes at least
+-- an item read by r, of so many bytes at least
 abbrev pub ItemAt : Reader ℕ → (size : ℕ) → List ℕ → ℕ → Item → Type 0
 ItemAt r size s at answer = ReadsAt r (taking size) s at (itemAs s at answer)
+
+-- the fault of an item that was refused; an item that was got has none, and is not asked for it
+abbrev pub faultOf : Item → Fault
+faultOf (Item.Got v c) = ItemCut
+faultOf (Item.Stop why) = why
 
 -- a name, which stands in the slice from the place on
 abbrev pub textAs : List ℕ → ℕ → Text → Verdict (Got (List ℕ))

@@ -1,17 +1,18 @@
 // The items of a body, read at a place. A cursor may stand anywhere: beyond the end there is nothing to read.
 ghost use mathlib.Core.Path.{_≡_};
 ghost use Prim.Native.Nat.{_+_, _-_, _≤_, _<_};
+ghost use lib.Dec.{ltb};
 ghost use lib.ListN.{length, getD, take, drop};
 ghost use Rattle.format.specs.Bytes.{signed, finite, number};
 ghost use Rattle.format.specs.Items.{u2, u4, vx, float, toZero};
-ghost use Rattle.wire.specs.Answers.{signOf, NumberAt, SignedAt, SignAt, ItemAt, TextAt};
+ghost use Rattle.wire.specs.Answers.{signOf, faultOf, NumberAt, SignedAt, SignAt, ItemAt, TextAt};
 use format::Fault;
 
 pub struct Cursor {
     pub at: usize,
 }
 
-// U2, U4 or VX: the number and the moved cursor, or that the item is cut.
+// U2 or U4: the number and the moved cursor, or that the item is cut.
 pub enum Number {
     Got(u32, Cursor),
     Cut,
@@ -34,7 +35,7 @@ pub enum Signs {
     Cut,
 }
 
-// An item whose value is judged too. Its fault is at the cursor that it was read by.
+// VX, or an item whose value is judged: the number and the moved cursor, or the fault, which is at the cursor that it was read by.
 pub enum Item {
     Got(u32, Cursor),
     Stop(Fault),
@@ -44,6 +45,16 @@ pub enum Item {
 pub enum Text {
     Got(usize, Cursor),
     Open,
+}
+
+// The fault of an item that was refused. A `let .. else` names what was got alone, so that the fault is asked for by this function.
+pub fn fault_of(read: Item) -> Fault
+    ensures { λ r. ⌜ r ≡ faultOf read ⌝ }
+{
+    match read {
+        Item::Got(_, _) => Fault::ItemCut,
+        Item::Stop(why) => why,
+    }
 }
 
 // A byte in the wider type, with its bound.
@@ -58,6 +69,16 @@ pub fn left(s: &[u8], at: usize) -> usize
     ensures { λ r. ⌜ r ≡ length (now (s .entry)) - at ⌝ }
 {
     if at < s.len() { s.len() - at } else { 0 }
+}
+
+// Whether an item of n bytes at a place is cut. The length is compared first, so that a loop over items does it once.
+fn is_cut(s: &[u8], at: usize, n: usize) -> bool
+    ensures { λ r. ⌜ r ≡ ltb (length (now (s .entry))) (at + n) ⌝ }
+{
+    if s.len() < n {
+        return true;
+    }
+    s.len() - n < at
 }
 
 // The byte at a place, 0 beyond the end.
@@ -86,7 +107,7 @@ pub fn word(s: &[u8], at: usize) -> u32
 }
 
 // The signed number that sixteen bits stand for.
-pub fn signed16(n: u16) -> i16
+fn signed16(n: u16) -> i16
     ensures { λ r. ⌜ r ≡ signed n ⌝ }
 {
     if n < 32768 {
@@ -97,7 +118,7 @@ pub fn signed16(n: u16) -> i16
 }
 
 // The sign decides, and the number is negated only in the wider type: -32,768 stands for 32,768.
-pub fn sign_of(z: i16) -> Sign
+fn sign_of(z: i16) -> Sign
     ensures { λ r. ⌜ r ≡ signOf z ⌝ }
 {
     let wide = z as i32;
@@ -143,7 +164,7 @@ impl Cursor {
         ensures { λ r. ⌜ NumberAt u2 2 (now (s .entry)) (self .at) r ⌝ }
     {
         let at = self.at;
-        if left(s, at) < 2 {
+        if is_cut(s, at, 2) {
             return Number::Cut;
         }
         Number::Got(pair(s, at) as u32, Cursor { at: at + 2 })
@@ -153,7 +174,7 @@ impl Cursor {
         ensures { λ r. ⌜ NumberAt u4 4 (now (s .entry)) (self .at) r ⌝ }
     {
         let at = self.at;
-        if left(s, at) < 4 {
+        if is_cut(s, at, 4) {
             return Number::Cut;
         }
         Number::Got(word(s, at), Cursor { at: at + 4 })
@@ -163,7 +184,7 @@ impl Cursor {
         ensures { λ r. ⌜ SignedAt (now (s .entry)) (self .at) r ⌝ }
     {
         let at = self.at;
-        if left(s, at) < 2 {
+        if is_cut(s, at, 2) {
             return Signed::Cut;
         }
         Signed::Got(signed16(pair(s, at)), Cursor { at: at + 2 })
@@ -179,17 +200,20 @@ impl Cursor {
         Signs::Got(sign_of(z), next)
     }
 
-    pub fn vx(self, s: &[u8]) -> Number
-        ensures { λ r. ⌜ NumberAt vx 2 (now (s .entry)) (self .at) r ⌝ }
+    // Where the first byte is 255 there are four bytes, with the index in the low 24 bits, and two otherwise.
+    pub fn vx(self, s: &[u8]) -> Item
+        ensures { λ r. ⌜ ItemAt vx 2 (now (s .entry)) (self .at) r ⌝ }
     {
-        let at = self.at;
-        if byte(s, at) == 255 {
+        if byte(s, self.at) == 255 {
             let Number::Got(n, next) = self.u4(s) else {
-                return Number::Cut;
+                return Item::Stop(Fault::ItemCut);
             };
-            return Number::Got(n % 16777216, next);
+            return Item::Got(n % 16777216, next);
         }
-        self.u2(s)
+        let Number::Got(n, next) = self.u2(s) else {
+            return Item::Stop(Fault::ItemCut);
+        };
+        Item::Got(n, next)
     }
 
     pub fn float(self, s: &[u8]) -> Item

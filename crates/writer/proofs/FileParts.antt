@@ -14,7 +14,7 @@ use Rattle.format.specs.Canonical.{bytes, stringBytes, pointBytes, runs, unless
 use Rattle.format.specs.Written.{pieces, entries, goodPolygon, meshFrom, isMesh}
 use Rattle.format.proofs.Puts.{joined-map-append}
 use Rattle.format.proofs.Facts.{all-first, all-rest}
-use Rattle.laws.proofs.Bodies.{good-polygon}
+use Rattle.laws.proofs.GoodPolygons.{good-polygon}
 use Rattle.laws.proofs.Meshes.{good}
 use Rattle.laws.proofs.Form.{length-form}
 use Rattle.laws.proofs.Tables.{good-tables, tables-back}

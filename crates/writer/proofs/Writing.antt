@@ -12,12 +12,11 @@ use Rattle.format.specs.Limits.{fileLimit}
 use Rattle.format.specs.Refusals.{noRoom, notMesh, tooLong}
 use Rattle.format.specs.Mesh.{Tables}
 use Rattle.format.specs.Canonical.{canonical}
-use Rattle.format.specs.Written.{meshFrom, isMesh, Written, says, written, outputAfter}
+use Rattle.format.specs.Written.{meshFrom, isMesh, Written, says, written, outputAfter, Writes}
 use Rattle.writer.specs.declared.Answer.{Answer}
 use Rattle.writer.specs.Writes.{answerAs}
 use Rattle.output.specs.Outputs.{Wrote}
 use Rattle.writer.specs.Parts.{FilePut}
-use Rattle.writer.specs.Writes.{WriteOf}
 
 module _ (t : Tables) (out : List ℕ) {a : Answer} (is : answerAs a ≡ written t (length out)) where
   abbrev file : List ℕ
@@ -26,7 +25,7 @@ module _ (t : Tables) (out : List ℕ) {a : Answer} (is : answerAs a ≡ written
   same-number : a .number ≡ written t (length out) .number
   same-number = ap (λ (w : Written). w .number) is
 
-  pub refused : (a .number ≡ 0 → ⊥) → WriteOf t out a out
+  pub refused : (a .number ≡ 0 → ⊥) → Writes t out (answerAs a) out
   unfolding outputAfter
   refused other = record { answers = is; leaves = rw (ne-eqb (written t (length out) .number) 0 (λ zero. other (same-number ∙ zero))) }
 
@@ -42,7 +41,7 @@ module _ (t : Tables) (out : List ℕ) {a : Answer} (is : answerAs a ≡ written
         go true false true e = absurd (omega (arith, zero, ap (λ (w : Written). w .number) e))
         go true false false e = (refl, refl, ap (λ (w : Written). w .length) e)
 
-    pub written-out : {out′ : List ℕ} {next : ℕ} → Wrote out 0 file out′ next → WriteOf t out a out′
+    pub written-out : {out′ : List ℕ} {next : ℕ} → Wrote out 0 file out′ next → Writes t out (answerAs a) out′
     unfolding outputAfter
     written-out w =
         let from : 0 + length file ≡ length file = omega arith in

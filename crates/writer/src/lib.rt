@@ -4,11 +4,10 @@ ghost use mathlib.Core.Bool.{true};
 ghost use lib.ListN.{length};
 ghost use Rattle.format.specs.Mesh.{lent};
 ghost use Rattle.format.specs.Canonical.{canonical};
-ghost use Rattle.format.specs.Written.{meshFrom, isMesh, written};
+ghost use Rattle.format.specs.Written.{meshFrom, isMesh, written, Writes};
 ghost use Rattle.writer.specs.Writes.{answerAs};
 ghost use Rattle.output.specs.Outputs.{Wrote};
 ghost use Rattle.writer.specs.Parts.{FilePut};
-ghost use Rattle.writer.specs.Writes.{WriteOf};
 use crate::chunks::put_points;
 use crate::chunks::put_tags;
 use crate::run_chunks::put_runs;
@@ -101,7 +100,7 @@ pub fn write(
     records: &[u32],
     out: &mut [u8],
 ) -> Answer
-    ensures { λ r. ⌜ WriteOf (lent (now (points .entry)) (now (polygons .entry)) (now (vertices .entry)) (now (names .entry)) (now («name_bytes» .entry)) (now (records .entry))) (now (out .entry)) r (now (out .exit)) ⌝ }
+    ensures { λ r. ⌜ Writes (lent (now (points .entry)) (now (polygons .entry)) (now (vertices .entry)) (now (names .entry)) (now («name_bytes» .entry)) (now (records .entry))) (now (out .entry)) (answerAs r) (now (out .exit)) ⌝ }
 {
     let answer = answer_for(
         points,

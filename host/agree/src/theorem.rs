@@ -1,198 +1,93 @@
-//! Cases, what the second program says of them, and the theorem that the rule
-//! book says the same.
-
-use std::fmt::Write;
-
-use cases::files::files;
-use cases::meshes::{damaged, mesh, rich_mesh};
-use cases::plain::PlainMesh;
-use cases::random::Random;
-use second::{read, rules, write, Tables};
+//! The theorems about cases, as text of the prover's language.
 
 use crate::book::Book;
+use crate::case::{Case, Sort};
 
-/// Longer files are left out: the prover takes the longer for them, and they
-/// show nothing that a short one cannot.
-const MOST_BYTES: usize = 420;
-
-/// A case and what is expected of it, each as a term of the prover's language.
-pub struct Case {
-    given: String,
-    expected: String,
-}
-
-/// Generated files, each read into tables with some contents and with room that
-/// is just enough, more, or in one table one entry short.
-pub fn file_cases(seed: u64, count: usize) -> Vec<Case> {
-    let mut random = Random::new(seed);
-    let short = files(seed).filter(|(_, bytes)| bytes.len() <= MOST_BYTES);
-    short
-        .take(count)
-        .map(|(_, bytes)| file_case(&mut random, &bytes))
-        .collect()
-}
-
-fn file_case(random: &mut Random, file: &[u8]) -> Case {
-    let mut tables = lent_tables(random, file);
-    let given = format!("({}, {})", list(file), record(&tables));
-    let answer = read(file, &mut tables);
-    let counts = [
-        answer.number,
-        answer.place,
-        answer.points,
-        answer.polygons,
-        answer.vertices,
-        answer.names,
-        answer.name_bytes,
-        answer.skipped,
-        answer.details,
-    ];
-    let expected = format!("({}, {})", list(&counts), record(&tables));
-    Case { given, expected }
-}
-
-fn lent_tables(random: &mut Random, file: &[u8]) -> Tables {
-    let mut tables = rules(file).map_or_else(|_| Tables::default(), |(mesh, _, _)| mesh.tables());
-    let changed = random.below(10);
-    let words = |table: &mut Vec<u32>, number: u64| {
-        table.iter_mut().for_each(|word| *word = 7);
-        match changed {
-            0..=2 => table.extend([8, 9]),
-            _ if changed == number => drop(table.pop()),
-            _ => {}
-        }
-    };
-    words(&mut tables.points, 3);
-    words(&mut tables.polygons, 4);
-    words(&mut tables.vertices, 5);
-    words(&mut tables.names, 6);
-    words(&mut tables.records, 7);
-    tables.name_bytes.iter_mut().for_each(|byte| *byte = 7);
-    if changed == 8 {
-        tables.name_bytes.pop();
-    }
-    tables
-}
-
-/// Meshes, whole and damaged, each written into output that is just long
-/// enough, longer, or a byte short.
-pub fn mesh_cases(seed: u64, count: usize) -> Vec<Case> {
-    let mut random = Random::new(seed);
-    let mut cases = Vec::new();
-    while cases.len() < count {
-        let whole = mesh(&mut random);
-        if whole.points.len() + whole.vertices.len() + whole.name_bytes.len() < MOST_BYTES {
-            cases.push(mesh_case(&mut random, &whole));
-        }
-        let rich = rich_mesh(&mut random);
-        let broken = damaged(&mut random, &rich);
-        let some = broken
-            .into_iter()
-            .filter(|one| one.mesh.points.len() < MOST_BYTES);
-        for one in some.take(6) {
-            cases.push(mesh_case(&mut random, &one.mesh));
-        }
-    }
-    cases.truncate(count);
-    cases
-}
-
-fn mesh_case(random: &mut Random, plain: &PlainMesh) -> Case {
-    let tables = Tables {
-        points: plain.points.clone(),
-        polygons: plain.polygons.clone(),
-        vertices: plain.vertices.clone(),
-        names: plain.names.clone(),
-        name_bytes: plain.name_bytes.clone(),
-        records: plain.records.clone(),
-    };
-    let needed = write(&tables, &mut []).length as usize;
-    let room = match random.below(3) {
-        0 => needed,
-        1 => needed + 3,
-        _ => needed.saturating_sub(1),
-    };
-    let mut out = vec![7; room];
-    let given = format!("({}, {})", record(&tables), list(&out));
-    let written = write(&tables, &mut out);
-    let told = [written.number, written.place, written.length];
-    let expected = format!("({}, {})", list(&told), list(&out));
-    Case { given, expected }
-}
-
-/// The theorem that the rule book's reader answers so on these files.
-pub fn about_files(book: &Book, cases: &[Case]) -> String {
-    let said = "said : List ℕ × Tables → List ℕ × Tables
-said c =
-    let a : Answer = answer (rules (c .0)) (c .1) in
+/// What the specification answers to a file in lent tables: nine numbers, and
+/// the tables after it.
+const OF_FILES: &str = "said : List ℕ → Tables → List ℕ × Tables
+said s t =
+    let a : Answer = answer (rules s) t in
     let n = a .needs in
-    (a .number ∷ a .place ∷ n .points ∷ n .polygons ∷ n .vertices ∷ n .names ∷ n .nameBytes ∷ a .skipped ∷ a .details ∷ [], tablesAfter (rules (c .0)) (c .1))
+    (a .number ∷ a .place ∷ n .points ∷ n .polygons ∷ n .vertices ∷ n .names ∷ n .nameBytes ∷ a .skipped ∷ a .details ∷ [], tablesAfter (rules s) t)
 ";
-    theorem(book, "List ℕ × Tables", "List ℕ × Tables", said, cases)
-}
 
-/// The theorem that the rule book's writer answers so on these meshes.
-pub fn about_meshes(book: &Book, cases: &[Case]) -> String {
-    let said = "said : Tables × List ℕ → List ℕ × List ℕ
-said c =
-    let w : Written = written (c .0) (length (c .1)) in
-    (w .number ∷ w .place ∷ w .length ∷ [], outputAfter (c .0) (c .1))
+/// What the specification answers to tables with a lent output: three numbers,
+/// and the output after it.
+const OF_MESHES: &str = "said : Tables → List ℕ → List ℕ × List ℕ
+said t out =
+    let w : Written = written t (length out) in
+    (w .number ∷ w .place ∷ w .length ∷ [], outputAfter t out)
 ";
-    theorem(book, "Tables × List ℕ", "List ℕ × List ℕ", said, cases)
-}
 
-fn theorem(book: &Book, given: &str, expected: &str, said: &str, cases: &[Case]) -> String {
-    let mut text = String::from(
-        "use Prim.Native.Nat.{ℕ}
+const USES: &str = "use Prim.Native.Nat.{ℕ}
 use mathlib.Core.Path.{_≡_, refl}
-use mathlib.Core.List.{List, [], _∷_, map}
+use mathlib.Core.List.{List, [], _∷_}
 use lib.ListN.{length}
 use lib.Ieee.{round, toBits}
-use Rattle.format.specs.Mesh.{Tables}
+use Rattle.format.specs.Mesh.{Tables, lent}
 use Rattle.format.specs.Answer.{Answer}
 use Rattle.format.specs.Written.{Written}
-",
-    );
-    text.push_str(&book.uses);
-    write!(
-        text,
-        "\n{said}\ncases : List (({given}) × ({expected}))\ncases =\n"
-    )
-    .unwrap();
-    for case in cases {
-        writeln!(text, "    ({}, {}) ∷", case.given, case.expected).unwrap();
-    }
-    write!(
-        text,
-        "    []
+";
 
-agrees : map (λ c. said (c .0)) cases ≡ map (λ c. c .1) cases
-unfolding said cases {}
-agrees = refl
-",
+/// Cases in one theorem. What a theorem may unfold is looked up once for all of
+/// them; each has a line of its own in the proof, which a refusal points to.
+const CASES_A_THEOREM: usize = 20;
+
+/// A module with theorems about these cases, all of one sort.
+pub fn module(book: &Book, sort: Sort, cases: &[&Case]) -> String {
+    let said = match sort {
+        Sort::File => OF_FILES,
+        Sort::Mesh => OF_MESHES,
+    };
+    let mut text = format!("{USES}{}\n{said}", book.uses);
+    for (number, some) in cases.chunks(CASES_A_THEOREM).enumerate() {
+        assert!(some.iter().all(|case| case.sort == sort));
+        text.push_str(&theorem(&format!("agrees-{number}"), book, some));
+    }
+    text
+}
+
+fn theorem(name: &str, book: &Book, cases: &[&Case]) -> String {
+    let claims: Vec<&str> = cases.iter().map(|case| case.claim.as_str()).collect();
+    let mut proofs = String::new();
+    for (number, case) in cases.iter().enumerate() {
+        let open = if number == 0 { "(" } else { " " };
+        let close = if number + 1 == cases.len() { ")" } else { "," };
+        proofs.push_str(&format!("    {open}refl{close}{MARK}{}\n", case.name));
+    }
+    format!(
+        "\n{name} :\n    {}\nunfolding said {}\n{name} =\n{proofs}",
+        claims.join("\n    × "),
         book.names
     )
-    .unwrap();
-    text
 }
 
-fn record(tables: &Tables) -> String {
-    format!(
-        "record {{ points = {}; polygons = {}; vertices = {}; names = {}; nameBytes = {}; records = {} }}",
-        list(&tables.points),
-        list(&tables.polygons),
-        list(&tables.vertices),
-        list(&tables.names),
-        list(&tables.name_bytes),
-        list(&tables.records)
-    )
-}
+/// What stands between the proof of a case and the case's name.
+pub const MARK: &str = "  -- ";
 
-fn list<T: Copy + Into<u64>>(numbers: &[T]) -> String {
-    let mut text = String::from("(");
-    for &number in numbers {
-        write!(text, "{} ∷ ", number.into()).unwrap();
+#[cfg(test)]
+mod tests {
+    use super::*;
+
+    #[test]
+    fn each_case_has_its_line() {
+        let case = |name| Case::new(name, Sort::Mesh, "a b", "c, d");
+        let (one, other) = (case("one"), case("other"));
+        let book = Book {
+            uses: String::new(),
+            names: String::from("rules"),
+        };
+        let text = theorem("t", &book, &[&one, &other]);
+        let known = "
+t :
+    (said a b ≡ (c, d))
+    × (said a b ≡ (c, d))
+unfolding said rules
+t =
+    (refl,  -- one
+     refl)  -- other
+";
+        assert_eq!(text, known);
     }
-    text.push_str("[])");
-    text
 }

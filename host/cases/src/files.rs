@@ -1,5 +1,6 @@
 //! The files that the program writes: an endless mixture for each seed.
 
+use crate::accepted::accepted;
 use crate::boundary;
 use crate::mutate::mutated;
 use crate::random::Random;
@@ -15,7 +16,7 @@ const MOST_BYTES: usize = 65_536;
 /// them are of every sort.
 pub fn files(seed: u64) -> impl Iterator<Item = (String, Vec<u8>)> {
     let mut random = Random::new(seed);
-    let mut list = fixed_files();
+    let mut list = fixed();
     shuffle(&mut random, &mut list);
     let mut fixed = list.into_iter();
     (0u64..).map(move |number| {
@@ -34,13 +35,25 @@ fn shuffle<T>(random: &mut Random, list: &mut [T]) {
     }
 }
 
-/// The boundary files that the program may read, then the targeted ones.
-fn fixed_files() -> Vec<(String, Vec<u8>)> {
+/// Valid and mutated files in turn, without end.
+pub fn generated(seed: u64) -> impl Iterator<Item = (String, Vec<u8>)> {
+    let mut random = Random::new(seed);
+    (0u64..).map(move |number| match number % 2 {
+        0 => valid_file(&mut random),
+        _ => mutated_file(&mut random),
+    })
+}
+
+/// The files that are the same for every seed: the boundary files that the
+/// program may read, then the targeted ones, then those that are accepted.
+pub fn fixed() -> Vec<(String, Vec<u8>)> {
     let bounds = boundary::small().into_iter();
     let bounds = bounds.map(|one| (format!("boundary-{}", one.name), one.file));
     let targets = targeted().into_iter();
     let targets = targets.map(|one| (format!("targeted-{}", one.name), one.file));
-    let all = bounds.chain(targets);
+    let good = accepted().into_iter();
+    let good = good.map(|one| (format!("accepted-{}", one.name), one.file));
+    let all = bounds.chain(targets).chain(good);
     all.filter(|(_, bytes)| bytes.len() <= MOST_BYTES).collect()
 }
 
@@ -86,8 +99,8 @@ mod tests {
     /// generator changes these numbers; then they are to be put right by hand.
     #[test]
     fn the_same_seed_gives_the_same_files() {
-        assert_eq!(hash_of_files(1, 300), 0x3b56_bd39_54a5_5362);
-        assert_eq!(hash_of_files(2, 300), 0x05d1_e061_b749_57d3);
+        assert_eq!(hash_of_files(1, 300), 0x7cc1_d03b_c0f9_82f9);
+        assert_eq!(hash_of_files(2, 300), 0xb2ad_e0b0_74a6_5f3d);
     }
 
     #[test]

@@ -7,6 +7,7 @@
 //! The same seed gives the same bytes on every machine.
 #![forbid(unsafe_code)]
 
+pub mod accepted;
 pub mod assemble;
 pub mod boundary;
 pub mod files;

@@ -150,7 +150,7 @@ fn add_other_tagging(random: &mut Random, draft: &mut Draft) {
     draft.add(chunk(b"PTAG", &body));
 }
 
-type Sub = (Tag, Vec<u8>);
+pub type Sub = (Tag, Vec<u8>);
 
 /// The shading values in the record's order.
 const SHADING: [&Tag; 5] = [b"DIFF", b"LUMI", b"SPEC", b"REFL", b"TRAN"];
@@ -253,7 +253,7 @@ fn level_four(random: &mut Random) -> Vec<u8> {
 
 /// What these sub-chunks give. "Missing: diffuse 1.0, other levels but colour
 /// 0, sides 1."
-fn record(subs: &[Sub]) -> PlainRecord {
+pub fn record(subs: &[Sub]) -> PlainRecord {
     let colour = last_body(subs, b"COLR");
     let part = |at| colour.map_or(0x3f00_0000, |body| word_at(body, at));
     let level = |tag, missing| last_body(subs, tag).map_or(missing, |body| word_at(body, 0));

@@ -290,6 +290,95 @@ fn undefined_with_values(list: &mut List) {
     });
 }
 
+/// Whole meshes in which something is as large or as small as it may be.
+pub fn at_bounds() -> Vec<(String, PlainMesh)> {
+    let mut list = Vec::new();
+    let mut add = |name: &str, mesh: PlainMesh| list.push((String::from(name), mesh));
+    let one_point = || PlainMesh {
+        points: vec![0; 3],
+        ..PlainMesh::default()
+    };
+    let mut longest = one_point();
+    longest.add_polygon(1, &[0; 1_023], 0);
+    add("polygon of 1,023", longest);
+    let mut shortest = one_point();
+    shortest.add_polygon(2, &[0], 0);
+    add("polygon of 1", shortest);
+    let mut names = one_point();
+    names.add_name(&[b'n'; 255], &UNDEFINED);
+    names.add_name(b"", &UNDEFINED);
+    names.add_name(&[255], &UNDEFINED);
+    names.add_polygon(1, &[0], 3);
+    add("names", names);
+    let mut levels = one_point();
+    let (largest, least) = (0x7f7f_ffff, 0x0000_0001);
+    levels.points = vec![largest, 0xff7f_ffff, least];
+    let record = [
+        1,
+        largest,
+        0xff7f_ffff,
+        least,
+        0x8000_0000,
+        0,
+        0x8000_0001,
+        0x0080_0000,
+        largest,
+        3,
+    ];
+    levels.add_name(b"a", &record);
+    add("levels", levels);
+    list
+}
+
+/// A mesh with one to three words, bytes or lengths changed. It may be a mesh
+/// or not.
+pub fn changed(random: &mut Random, whole: &PlainMesh) -> PlainMesh {
+    let mut mesh = whole.clone();
+    for _ in 0..random.between(1, 3) {
+        let table = match random.below(6) {
+            0 => &mut mesh.points,
+            1 => &mut mesh.polygons,
+            2 => &mut mesh.vertices,
+            3 => &mut mesh.names,
+            4 => &mut mesh.records,
+            _ => {
+                change_bytes(random, &mut mesh.name_bytes);
+                continue;
+            }
+        };
+        change_words(random, table);
+    }
+    mesh
+}
+
+fn change_words(random: &mut Random, table: &mut Vec<u32>) {
+    let at = random.index(table.len() + 1);
+    match table.get_mut(at) {
+        Some(word) => match random.below(6) {
+            0 => *word = word.wrapping_add(1),
+            1 => *word = word.wrapping_sub(1),
+            2 => *word ^= 1 << random.below(32),
+            3 => *word = random.below(4) as u32,
+            4 => {
+                table.remove(at);
+            }
+            _ => table.insert(at, 1),
+        },
+        None => table.push(random.below(3) as u32),
+    }
+}
+
+fn change_bytes(random: &mut Random, bytes: &mut Vec<u8>) {
+    let at = random.index(bytes.len() + 1);
+    match bytes.get_mut(at) {
+        Some(byte) if random.once_in(2) => *byte = *random.pick(&[0, 1, b'a', 255]),
+        Some(_) => {
+            bytes.remove(at);
+        }
+        None => bytes.push(random.byte()),
+    }
+}
+
 /// A mesh whose canonical file has exactly 16,777,216 bytes, or two more: 12
 /// bytes of FORM, TAGS with one name, and PNTS.
 pub fn at_file_limit(over: bool) -> PlainMesh {

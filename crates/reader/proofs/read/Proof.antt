@@ -1,5 +1,11 @@
+-- Each way out has its law in `Answering`, and the type of a lent byte says that it is one.
 use borrow.Author.Needs.{needs}
+use native.Mathlib.Omega.{arith}
+use mathlib.Core.Path.{_≡_}
+use mathlib.Core.Bool.{true}
+use Rattle.format.specs.Bytes.{byte, all}
 use Rattle.format.specs.Mesh.{Tables, lent}
+use Rattle.format.proofs.Facts.{all-bytes}
 use Rattle.survey.specs.declared.first.First.{First}
 use Rattle.survey.specs.Answers.{FirstOf}
 use Rattle.reader.proofs.Answering.{read-refused, tables-room, read-accepted, read-no-room}
@@ -16,12 +22,16 @@ start x = x .before .before .before .before .before .before .before .before .bef
 abbrev given : tie.Start → Tables
 given a = lent (a .args .points .now) (a .args .polygons .now) (a .args .vertices .now) (a .args .names .now) (a .args .name-bytes .now) (a .args .records .now)
 
+-- the file is bytes
+bytes : (x : tie.After-first-pass) → all byte (x .before .before .before .before .before .before .before .before .args .file .now) ≡ true
+bytes x = all-bytes _ (λ i. omega (arith, x .before .before .before .before .before .before .before .shared-slice-known .given i))
+
 -- the file was judged fine
 counted : (x : tie.After-kind) → FirstOf (start x .args .file .now) (First.Counts (x .kind .given .0 .0) (x .kind .given .0 .1 .0))
 counted x = rw (x .kind .given .1) at (x .before .before .first-pass .ensures)
 
 returns : tie.Need-returns
-returns c = read-refused (rw (c .before .before .f .given .1) at (c .before .before .before .before .first-pass .ensures)) (c .refused .ensures)
+returns c = read-refused (bytes (c .before .before .before .before)) (rw (c .before .before .f .given .1) at (c .before .before .before .before .first-pass .ensures)) (c .refused .ensures)
 
 fill-tables-requires : tie.Need-fill-tables-requires
 fill-tables-requires c κs =
@@ -34,12 +44,12 @@ returns-2 c =
     let f = c .before .before .before .before .before .before .before .before .before .before .before .before .before in
     let r = f .before .before .before .before .before .before .before in
     let u = r .before in
-    read-accepted (counted (matched u)) {t = given (start (matched u))} (u .has-room .ensures) (r .if1 .taken) (f .fill-tables .ensures) (c .with-counts .ensures)
+    read-accepted (counted (matched u)) {t = given (start (matched u))} (bytes (matched u .before .before)) (u .has-room .ensures) (r .if1 .taken) (f .fill-tables .ensures) (c .with-counts .ensures)
 
 returns-3 : tie.Need-returns-3
 returns-3 c =
     let u = c .before .before in
-    read-no-room (counted (matched u)) {t = given (start (matched u))} (u .has-room .ensures) (c .before .if1 .left) (c .with-counts2 .ensures)
+    read-no-room (counted (matched u)) {t = given (start (matched u))} (bytes (matched u .before .before)) (u .has-room .ensures) (c .before .if1 .left) (c .with-counts2 .ensures)
 
 pub read-spec : {M : Type 1} → statement M
 read-spec =

@@ -126,6 +126,26 @@ mod tests {
         assert_eq!(names.len(), list.len());
     }
 
+    /// One point, and a face of one vertex whose index has only bit 23: no
+    /// vertex of one point, so 9 at the POLS chunk.
+    #[test]
+    fn the_highest_bit_of_an_index_counts() {
+        let file = form(
+            Kind::Lwo2,
+            &join(&[
+                chunk(b"PNTS", &[0; 12]),
+                chunk(b"POLS", b"FACE\x00\x01\xff\x80\x00\x00"),
+            ]),
+        );
+        let digits: String = file.iter().map(|byte| format!("{byte:02x}")).collect();
+        let known = "464f524d0000002a4c574f32504e54530000000c000000000000000000000000\
+                     504f4c530000000a464143450001ff800000";
+        assert_eq!(digits, known);
+        let list = targeted();
+        let one = list.iter().find(|one| one.file == file).expect("the file");
+        assert_eq!((one.number, one.place), (9, 32));
+    }
+
     #[test]
     fn every_number_is_there() {
         let mut counts: BTreeMap<u64, usize> = BTreeMap::new();

@@ -84,13 +84,14 @@ fn add_long_names(catalogue: &mut Catalogue, kind: Kind) {
 /// "equal to an earlier name there": the later one is at fault.
 fn add_equal_names(catalogue: &mut Catalogue, kind: Kind) {
     let longest = vec![b'n'; 255];
-    let lists: [(&str, Vec<&[u8]>, usize); 7] = [
+    let lists: [(&str, Vec<&[u8]>, usize); 8] = [
         ("neighbours", vec![b"a", b"a"], 1),
         ("apart", vec![b"a", b"b", b"cd", b"a"], 3),
         ("empty", vec![b"", b""], 1),
         ("empty-apart", vec![b"", b"a", b""], 2),
         ("longest", vec![&longest, b"n", &longest], 2),
         ("not-first", vec![b"a", b"b", b"b", b"a"], 2),
+        ("second-only", vec![b"a", b"b", b"cd", b"b"], 3),
         ("after-beginnings", vec![b"ab", b"a", b"abc", b"ab"], 3),
     ];
     for (name, names, again) in lists {

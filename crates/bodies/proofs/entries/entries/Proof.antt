@@ -1,3 +1,4 @@
+-- Each turn reads one entry more and adds what it has to the sums, which stay below the place. Assumes nothing.
 use Prim.Native.Nat.{_-_}
 use native.Mathlib.Omega.{arith}
 use lib.ListN.{length}

@@ -1,3 +1,4 @@
+-- Each layout's entry is its own function's. Assumes nothing.
 use borrow.Author.Needs.{needs}
 use Rattle.bodies.proofs.entries.one_entry.Statement.{statement}
 use Rattle.bodies.proofs.entries.one_entry.Tie as tie

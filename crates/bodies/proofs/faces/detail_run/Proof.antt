@@ -1,3 +1,4 @@
+-- Each turn reads one detail more, and its first fault is that of them all. Assumes nothing.
 use borrow.Author.Needs.{needs}
 use Rattle.format.specs.Bodies.{detail}
 use Rattle.format.proofs.Counting.{Counting, begin, turn, stop, end}

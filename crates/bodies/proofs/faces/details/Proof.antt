@@ -1,3 +1,4 @@
+-- The count is read, and then so many details. Assumes nothing.
 use native.Mathlib.Omega.{arith}
 use borrow.Author.Needs.{needs}
 use Rattle.format.specs.Said.{each}

@@ -1,14 +1,16 @@
+-- A negative sign gives what `details` gives, and any other nothing. Assumes nothing.
+use mathlib.Core.Path.{refl}
 use native.Mathlib.Omega.{arith}
 use borrow.Author.Needs.{needs}
-use Rattle.bodies.proofs.Signs.{has-sign, no-details, with-details}
+use Rattle.format.proofs.Saying.{given}
 use Rattle.bodies.proofs.faces.details_after.Statement.{statement}
 use Rattle.bodies.proofs.faces.details_after.Tie as tie
 
 returns : tie.Need-returns
-returns c = record { says = λ z e. with-details z _ _ (has-sign z e (c .before .if1 .taken)) (c .details .ensures .says); moves = c .details .ensures .moves }
+returns c = rw (c .before .if1 .taken) (c .details .ensures)
 
 returns-2 : tie.Need-returns-2
-returns-2 c = record { says = λ z e. no-details z _ _ (has-sign z e (c .if1 .left)); moves = omega arith }
+returns-2 c = rw (c .if1 .left) (record { says = given refl; moves = omega arith })
 
 pub details-after-spec : {M : Type 1} → statement M
 details-after-spec = tie.close (tie.spec (λ c κs. search needs) returns returns-2)

@@ -1,10 +1,11 @@
+-- Vertices, surface number and details are read and judged in this order. Assumes nothing.
 use native.Mathlib.Omega.{arith}
 use borrow.Author.Tests.{not-true, not-false}
 use borrow.Author.Needs.{needs}
 use Rattle.format.specs.Bodies.{face}
 use Rattle.format.specs.Items.{_then_, _>>=_, _or_unless_}
 use Rattle.format.proofs.Saying.{on, on-some, off, given, good-some, bad-some}
-use Rattle.bodies.proofs.Signs.{names-one, outline-stops}
+use Rattle.bodies.proofs.Signs.{names-one, outline-stops, by-sign}
 use Rattle.bodies.proofs.faces.face.Statement.{statement}
 use Rattle.bodies.proofs.faces.face.Tie as tie
 
@@ -26,7 +27,7 @@ returns-3 c =
     let a = i .before .before .before in
     let o = rw (a .vertices .given .1) at (a .before .before .outline-at .ensures) in
     let d = rw (c .before .f2 .given .1) at (c .before .before .before .details-after .ensures) in
-    record { says = on-some _ (o .vertices .says) (λ vs q. on-some _ (good-some _ _ (o .sign .says) (λ z e. names-one z e _ (i .before .listed .ensures) (not-false _ (i .if1 .left)))) (λ z e. off _ (d .says z e))); moves = tt }
+    record { says = on-some _ (o .vertices .says) (λ vs q. on-some _ (good-some _ _ (o .sign .says) (λ z e. names-one z e _ (i .before .listed .ensures) (not-false _ (i .if1 .left)))) (λ z e. off _ (by-sign _ _ z e (d .says)))); moves = tt }
 
 returns-4 : tie.Need-returns-4
 unfolding face
@@ -35,7 +36,7 @@ returns-4 c =
     let a = i .before .before .before in
     let o = rw (a .vertices .given .1) at (a .before .before .outline-at .ensures) in
     let d = rw (c .before .details .given .1) at (c .before .before .before .details-after .ensures) in
-    record { says = on-some _ (o .vertices .says) (λ vs q. on-some _ (good-some _ _ (o .sign .says) (λ z e. names-one z e _ (i .before .listed .ensures) (not-false _ (i .if1 .left)))) (λ z e. on _ (d .says z e) (given (rw q)))); moves = omega (arith, o .vertices .moves, o .sign .moves, d .moves) }
+    record { says = on-some _ (o .vertices .says) (λ vs q. on-some _ (good-some _ _ (o .sign .says) (λ z e. names-one z e _ (i .before .listed .ensures) (not-false _ (i .if1 .left)))) (λ z e. on _ (by-sign _ _ z e (d .says)) (given (rw q)))); moves = omega (arith, o .vertices .moves, o .sign .moves, d .moves) }
 
 pub face-spec : {M : Type 1} → statement M
 face-spec =

@@ -1,3 +1,4 @@
+-- Vertices and surface number are read, and the number is judged by its sign first. Assumes nothing.
 use mathlib.Core.Path.{refl}
 use native.Mathlib.Omega.{arith}
 use borrow.Author.Needs.{needs}

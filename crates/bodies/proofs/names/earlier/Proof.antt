@@ -1,3 +1,4 @@
+-- The names from p on are left to be compared, and none before p is equal. Assumes nothing.
 use Prim.Native.Nat.{_-_}
 use native.Mathlib.Omega.{arith}
 use lib.ListN.{length}

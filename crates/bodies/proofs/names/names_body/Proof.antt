@@ -1,3 +1,4 @@
+-- The names before the place are a chain of strings, and what is counted is theirs. Assumes nothing.
 use Prim.Native.Nat.{_-_}
 use native.Mathlib.Omega.{arith}
 use lib.ListN.{length}
@@ -22,7 +23,10 @@ returns c =
     unended (u .before .before .loop .inv) (u .before .loop-test .taken) (rw (c .enum-told .given .1) at (u .string .ensures))
 
 new-name-requires : tie.Need-new-name-requires Inv-loop μ-loop
-new-name-requires c κs = omega (arith, inside (rw (c .before .n .given .1) at (c .before .before .before .string .ensures)))
+new-name-requires c κs =
+    let u = c .before .before .before in
+    let w = u .before .before .loop .inv in
+    record { earlier = w .earlier; chain = w .chain; there = omega (arith, inside (rw (c .before .n .given .1) at (u .string .ensures))) }
 
 returns-2 : tie.Need-returns-2 Inv-loop μ-loop
 returns-2 c =

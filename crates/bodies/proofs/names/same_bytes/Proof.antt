@@ -1,3 +1,4 @@
+-- Of equal lengths, all bytes before the index are equal. Assumes nothing.
 use Prim.Native.Nat.{_-_}
 use borrow.Author.Needs.{needs}
 use Rattle.bodies.proofs.Sameness.{unequal, Sameness, begin, turn, differ, end}

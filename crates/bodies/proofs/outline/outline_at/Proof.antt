@@ -1,3 +1,4 @@
+-- The vertices are read, and the surface number after them. Assumes nothing.
 use borrow.Author.Needs.{needs}
 use Rattle.format.proofs.Saying.{on-some, off, fails}
 use Rattle.bodies.proofs.outline.outline_at.Statement.{statement}

@@ -1,3 +1,4 @@
+-- Vertices and surface number are read, and the number is judged. Assumes nothing.
 use native.Mathlib.Omega.{arith}
 use borrow.Author.Needs.{needs}
 use Rattle.format.specs.Bodies.{patch}

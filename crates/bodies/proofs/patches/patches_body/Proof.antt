@@ -1,3 +1,4 @@
+-- The body is its entries in the layout of patches. Assumes nothing.
 use borrow.Author.Needs.{needs}
 use Rattle.format.specs.Bodies.{patchesBody}
 use Rattle.bodies.proofs.patches.patches_body.Statement.{statement}

@@ -1,3 +1,4 @@
+-- The float's bits are its two halves. Assumes nothing.
 use mathlib.Core.Path.{_∙_, ap, sym}
 use borrow.Author.Needs.{needs}
 use Rattle.format.specs.Bytes.{finite}

@@ -1,3 +1,4 @@
+-- The first float that is not finite is the point's fault. Assumes nothing.
 use mathlib.Core.Path.{sym, _∙_}
 use borrow.Author.Tests.{not-true, not-false}
 use borrow.Author.Needs.{needs}

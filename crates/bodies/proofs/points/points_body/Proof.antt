@@ -1,3 +1,4 @@
+-- The length is judged first, so that each turn has a whole point before it. Assumes nothing.
 use mathlib.Core.Path.{sym, _∙_}
 use Prim.Native.Nat.{_-_}
 use lib.ListN.{length}

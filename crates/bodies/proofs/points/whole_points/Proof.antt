@@ -1,3 +1,4 @@
+-- One test for each kind of file. Assumes nothing.
 use borrow.Author.Needs.{needs}
 use Rattle.format.specs.Bodies.{wholePoints}
 use Rattle.bodies.proofs.points.whole_points.Statement.{statement}

@@ -1,3 +1,4 @@
+-- A polygon is its vertices, whatever its kind. Assumes nothing.
 use native.Mathlib.Omega.{arith}
 use borrow.Author.Needs.{needs}
 use Rattle.format.specs.Bodies.{polygon}

@@ -1,3 +1,4 @@
+-- A tag that is compared as a number is compared as text. Assumes nothing.
 use borrow.Author.Tests.{eq-eqb, ne-eqb}
 use Rattle.format.specs.Bytes.{number}
 use Rattle.bodies.proofs.polygons.polygon_kind.Statement.{statement}

@@ -1,3 +1,4 @@
+-- The type is read and judged, and the entries follow it. Assumes nothing.
 use mathlib.Core.Path.{sym, _∙_}
 use borrow.Author.Tests.{not-true, not-false}
 use borrow.Author.Needs.{needs}

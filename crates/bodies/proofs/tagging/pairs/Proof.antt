@@ -1,3 +1,4 @@
+-- Each turn reads one pair more, up to the end or the first fault. Assumes nothing.
 use mathlib.Core.Path.{refl}
 use Prim.Native.Nat.{_-_}
 use native.Mathlib.Omega.{arith}

@@ -1,3 +1,4 @@
+-- The type is read, and pairs follow it, or bytes that are not judged. Assumes nothing.
 use mathlib.Core.List.{[]}
 use borrow.Author.Tests.{eq-eqb, ne-eqb}
 use borrow.Author.Needs.{needs}

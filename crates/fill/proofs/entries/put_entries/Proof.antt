@@ -1,3 +1,4 @@
+-- Each turn puts one entry more, after those before it in both tables. Assumes nothing.
 use borrow.Author.Needs.{needs}
 use Prim.Native.Nat.{_-_}
 use native.Mathlib.Omega.{arith}

@@ -1,3 +1,4 @@
+-- Each layout's entry is put by its own function. Assumes nothing.
 use borrow.Author.Needs.{needs}
 use Rattle.fill.proofs.entries.put_entry.Statement.{statement}
 use Rattle.fill.proofs.entries.put_entry.Tie as tie

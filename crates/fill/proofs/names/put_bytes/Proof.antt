@@ -1,3 +1,4 @@
+-- Each turn puts one byte more, after those before it. Assumes nothing.
 use borrow.Author.Needs.{needs}
 use Rattle.fill.proofs.Copies.{Copying, copy-begin, copy-turn, copy-end}
 use Prim.Native.Nat.{_-_}

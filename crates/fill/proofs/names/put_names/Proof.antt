@@ -1,3 +1,4 @@
+-- Each turn puts one name more, and no string is open, since the body was judged. Assumes nothing.
 use borrow.Author.Needs.{needs}
 use Prim.Native.Nat.{_-_}
 use native.Mathlib.Omega.{arith}

@@ -1,3 +1,4 @@
+-- The face is put as its outline is, and its details are read as they were judged, so that they stop nowhere. Assumes nothing.
 use borrow.Author.Needs.{needs}
 use Rattle.fill.proofs.Outlines.{face-room, details-stop, face-put}
 use Rattle.fill.proofs.outline.put_face.Statement.{statement}
@@ -8,13 +9,15 @@ put-outline-requires c κs = face-room _ (c .before .before .before .before .bef
 
 returns : tie.Need-returns
 returns c =
-    let p = c .before .before .before .before .before .before .before .before .before in
-    absurd (details-stop _ (p .before .before .before .before .before .before .pre) (p .put-outline .ensures) (rw (c .enum-told .given .1) at (c .before .before .details-after .ensures)))
+    let d = c .before .before in
+    let p = d .before .before .before .before .before .before in
+    absurd (details-stop _ (p .before .before .before .before .before .before .pre) (p .put-outline .ensures) ((rw (c .enum-told .given .1) at (d .details-after .ensures)) .says))
 
 returns-2 : tie.Need-returns-2
 returns-2 c =
-    let p = c .before .before .before .before .before .before .before .before .before .before in
-    face-put _ (p .before .before .before .before .before .before .pre) (p .put-outline .ensures) (rw (c .before .next .given .1) at (c .before .before .before .details-after .ensures))
+    let d = c .before .before .before in
+    let p = d .before .before .before .before .before .before in
+    face-put _ (p .before .before .before .before .before .before .pre) (p .put-outline .ensures) (rw (c .before .next .given .1) at (d .details-after .ensures))
 
 pub put-face-spec : {M : Type 1} → statement M
 put-face-spec =

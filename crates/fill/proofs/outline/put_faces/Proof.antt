@@ -1,3 +1,4 @@
+-- The body is its entries in the layout of faces. Assumes nothing.
 use borrow.Author.Needs.{needs}
 use Rattle.format.specs.Bodies.{facesBody}
 use Rattle.fill.proofs.outline.put_faces.Statement.{statement}

@@ -1,3 +1,4 @@
+-- A patch that was judged fine is put as its outline is. Assumes nothing.
 use borrow.Author.Needs.{needs}
 use Rattle.fill.proofs.Outlines.{patch-room, patch-put}
 use Rattle.fill.proofs.outline.put_patch.Statement.{statement}

@@ -1,5 +1,6 @@
+-- Each turn puts the three words of one point, and the body holds whole points. Assumes nothing.
 use Prim.Native.Nat.{_-_}
-use Rattle.fill.proofs.Words.{PointsPutting, threes-begin, y-fits, z-fits, threes-turn, threes-end}
+use Rattle.fill.proofs.Words.{words-fit, PointsPutting, threes-begin, y-fits, z-fits, threes-turn, threes-end}
 use borrow.Author.Needs.{needs}
 use Rattle.fill.proofs.points.put_points.Statement.{statement}
 use Rattle.fill.proofs.points.put_points.Tie as tie
@@ -11,7 +12,7 @@ abbrev μ-loop : tie.MeasureT-loop
 μ-loop s table₀ m n i₀ table i = n - i
 
 loop-holds : tie.Need-loop-holds Inv-loop μ-loop
-loop-holds c = threes-begin _ _ _ _ (search needs) (c .before .before .before .pre)
+loop-holds c = threes-begin _ _ _ _ (search needs) (words-fit (c .before .before .before .pre))
 
 slice-write-table-2 : tie.Need-slice-write-table-2 Inv-loop μ-loop
 slice-write-table-2 c = y-fits (c .before .before .before .loop .inv) _ (c .before .before .loop-test .taken)

@@ -1,39 +1,41 @@
+-- Count and vertices are read as they were judged, so that none is cut. Assumes nothing.
 use borrow.Author.Needs.{needs}
-use Rattle.format.proofs.Places.{uint-whole}
-use Rattle.fill.proofs.OnePolygon.{polygon-there, polygon-vertices, polygon-put}
+use Rattle.fill.proofs.Known.{never}
+use Rattle.fill.proofs.OnePolygon.{polygon-counted, polygon-vertices, polygon-put}
 use Rattle.fill.proofs.polygons.put_polygon.Statement.{statement}
 use Rattle.fill.proofs.polygons.put_polygon.Tie as tie
 
-pair-requires : tie.Need-pair-requires
-pair-requires c κs = polygon-there _ (c .before .before .before .pre)
-
-add-t18 : tie.Need-add-t18
-add-t18 c = let y = polygon-there _ (c .before .before .before .before .before .before .before .before .pre) in search (needs, y)
-
-put-vertices-requires : tie.Need-put-vertices-requires
-put-vertices-requires c κs =
-    let n = c .before .before .before .before .before in
-    let r = n .before .before .before .before .pre in
-    polygon-vertices _ r (uint-whole 2 (polygon-there _ r) (n .pair .ensures))
-
 returns : tie.Need-returns
 returns c =
-    let p = c .before .before .before .before .before .before in
-    let n = p .before .before in
-    let r = n .before .before .before .before .pre in
-    polygon-put _ r (uint-whole 2 (polygon-there _ r) (n .pair .ensures)) (p .put-words .ensures) (c .before .before .put-vertices .ensures)
+    let u = c .before .before in
+    absurd (never (polygon-counted _ (u .before .before .before .before .pre)) ((rw (c .enum-told .given .1) at (u .u2 .ensures)) .says))
+
+put-vx-vertices-requires : tie.Need-put-vx-vertices-requires
+put-vx-vertices-requires c κs =
+    let x = c .before .before .before .before .before .before in
+    let u = x .before .before in
+    polygon-vertices _ (u .before .before .before .before .pre) (rw (x .n .given .1) at (u .u2 .ensures))
+
+returns-2 : tie.Need-returns-2
+returns-2 c =
+    let v = c .before .before in
+    let p = v .before .before .before .before in
+    let x = p .before .before .before in
+    let u = x .before .before in
+    polygon-put _ (u .before .before .before .before .pre) (rw (x .n .given .1) at (u .u2 .ensures)) (p .put-words .ensures) (v .put-vx-vertices .ensures)
 
 pub put-polygon-spec : {M : Type 1} → statement M
 put-polygon-spec =
     tie.close
     (tie.spec
-    pair-requires
-    (λ c. search needs)
     (λ c κs. search needs)
-    add-t18
-    (λ c. search needs)
-    put-vertices-requires
     (λ c. search needs)
     (λ c. search needs)
+    returns
+    (λ c κs. search needs)
     (λ c. search needs)
-    returns)
+    put-vx-vertices-requires
+    (λ c. search needs)
+    (λ c. search needs)
+    (λ c. search needs)
+    returns-2)

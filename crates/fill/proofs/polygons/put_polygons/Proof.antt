@@ -1,3 +1,4 @@
+-- The type is read as it was judged, and what follows it are the entries. Assumes nothing.
 use borrow.Author.Needs.{needs}
 use Rattle.fill.proofs.Bodies.{never-cut, typed-room, typed-put}
 use Rattle.fill.proofs.polygons.put_polygons.Statement.{statement}

@@ -1,3 +1,4 @@
+-- Three words one after another. Assumes nothing.
 use borrow.Author.Needs.{needs}
 use lib.ListN.{length-set}
 use Rattle.fill.proofs.OnePolygon.{words-put}

@@ -1,3 +1,4 @@
+-- The type is read as it was judged, and pairs follow it, or nothing that is kept. Assumes nothing.
 use borrow.Author.Needs.{needs}
 use borrow.Author.Tests.{eq-eqb, ne-eqb}
 use Rattle.format.specs.Bytes.{number}

@@ -1,5 +1,6 @@
+-- One string after the other, each from where the last one ended.
 use borrow.Author.Needs.{needs}
-use Rattle.surface.proofs.Surfacing.{no-name, name-only, no-source, name-and-source}
+use Rattle.surface.proofs.SurfaceBody.{no-name, name-only, no-source, name-and-source}
 use Rattle.surface.proofs.body.strings.Statement.{statement}
 use Rattle.surface.proofs.body.strings.Tie as tie
 

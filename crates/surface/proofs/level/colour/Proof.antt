@@ -1,3 +1,4 @@
+-- The quotient is rounded once.
 use borrow.Author.Needs.{needs}
 use Rattle.surface.proofs.Quotient.{colour-of}
 use Rattle.surface.proofs.level.colour.Statement.{statement}

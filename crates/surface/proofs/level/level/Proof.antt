@@ -1,3 +1,4 @@
+-- The quotient is rounded once, and by 256 it is exact.
 use borrow.Author.Needs.{needs}
 use mir.Facts.{toZ-ofZ}
 use Rattle.surface.proofs.Quotient.{level-of}

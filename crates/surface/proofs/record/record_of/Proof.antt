@@ -1,16 +1,17 @@
+-- A body that was judged fine has its strings, and its last values make its record.
+use Rattle.surface.proofs.SurfaceBody.{never-open, sound-nested, record-at}
 use borrow.Author.Needs.{needs}
-use Rattle.surface.proofs.Bodied.{no-record, by-lwo2, by-lwob}
 use Rattle.surface.proofs.record.record_of.Statement.{statement}
 use Rattle.surface.proofs.record.record_of.Tie as tie
 
 returns : tie.Need-returns
-returns c = no-record (rw (c .before .enum-told .given .1) at (c .before .before .before .strings .ensures)) (c .missing .ensures)
+returns c = absurd (never-open (c .before .before .before .before .before .pre) (rw (c .before .enum-told .given .1) at (c .before .before .before .strings .ensures)))
+
+last-values-requires : tie.Need-last-values-requires
+last-values-requires c κs = sound-nested (c .before .before .before .before .before .pre) (rw (c .before .first .given .1) at (c .before .before .before .strings .ensures))
 
 returns-2 : tie.Need-returns-2
-returns-2 c = by-lwo2 (c .before .before .enum-told2 .given .1) (rw (c .before .before .before .before .before .c .given .1) at (c .before .before .before .before .before .before .before .strings .ensures)) (c .before .defined .ensures) (c .settled .ensures)
-
-returns-3 : tie.Need-returns-3
-returns-3 c = by-lwob (c .before .before .before .before .before .enum-told3 .given .1) (rw (c .before .before .before .before .before .before .before .before .c .given .1) at (c .before .before .before .before .before .before .before .before .before .before .strings .ensures)) (c .before .before .before .before .flags .ensures) (c .before .before .before .unlit .ensures) (c .before .before .settled2 .ensures) (c .before .settled-long .ensures) (c .with-sides .ensures)
+returns-2 c = record-at (rw (c .before .before .before .first .given .1) at (c .before .before .before .before .before .strings .ensures)) (c .before .last-values .ensures) (c .of-values .ensures)
 
 pub record-of-spec : {M : Type 1} → statement M
 record-of-spec =
@@ -18,17 +19,9 @@ record-of-spec =
     (tie.spec
     (λ c κs. search needs)
     (λ c. search needs)
+    (λ c. search needs)
     (λ c κs. search needs)
     returns
-    (λ c. search needs)
-    (λ c. search needs)
+    last-values-requires
     (λ c κs. search needs)
-    (λ c κs. search needs)
-    (λ c. search needs)
-    (λ c κs. search needs)
-    (λ c κs. search needs)
-    (λ c κs. search needs)
-    (λ c κs. search needs)
-    (λ c κs. search needs)
-    returns-2
-    returns-3)
+    returns-2)

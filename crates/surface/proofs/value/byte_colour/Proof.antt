@@ -1,3 +1,4 @@
+-- Four bytes are left, so each of the first three is there and is divided by itself.
 use borrow.Author.Needs.{needs}
 use mathlib.Core.Path.{sym, _∙_}
 use Rattle.surface.proofs.Valuing.{no-value, colour-value}

@@ -1,3 +1,4 @@
+-- A float that is read is finite, and so its bits come back; the rest is the envelope.
 use borrow.Author.Needs.{needs}
 use mathlib.Core.Path.{sym, _∙_}
 use Rattle.surface.proofs.Valuing.{float-read, level-enveloped, level-bad}

@@ -1,3 +1,4 @@
+-- Two bytes are left, so the number is there.
 use borrow.Author.Needs.{needs}
 use Rattle.surface.proofs.Valuing.{no-value, first-bad, flag-value}
 use mathlib.Core.Path.{sym, _∙_}

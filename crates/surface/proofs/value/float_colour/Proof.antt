@@ -1,3 +1,4 @@
+-- A float that is read is finite, and so its bits come back; the rest is the other two levels.
 use borrow.Author.Needs.{needs}
 use Rattle.surface.proofs.Valuing.{float-read, float-bad, red-first}
 use Rattle.surface.proofs.value.float_colour.Statement.{statement}

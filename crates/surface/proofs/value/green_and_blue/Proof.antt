@@ -1,3 +1,4 @@
+-- A float that is read is finite, and so its bits come back; the rest is the last level.
 use borrow.Author.Needs.{needs}
 use Rattle.surface.proofs.Valuing.{float-read, float-bad, green-next}
 use Rattle.surface.proofs.value.green_and_blue.Statement.{statement}

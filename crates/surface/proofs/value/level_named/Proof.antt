@@ -1,4 +1,4 @@
-use borrow.Author.Needs.{needs}
+-- Of five tags it is none of the first four.
 use Rattle.format.specs.Bytes.{number}
 use Rattle.surface.proofs.Valuing.{last-of}
 use Rattle.surface.proofs.value.level_named.Statement.{statement}

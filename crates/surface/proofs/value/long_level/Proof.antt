@@ -1,3 +1,4 @@
+-- Four bytes are left; a float that is read is finite, and so its bits come back.
 use borrow.Author.Needs.{needs}
 use mathlib.Core.Path.{sym, _∙_}
 use Rattle.surface.proofs.Valuing.{no-value, first-bad, float-read, long-value}

@@ -1,5 +1,6 @@
+-- By tag, as the specification goes by it.
 use borrow.Author.Needs.{needs}
-use Rattle.surface.proofs.Valuing.{valued-as, unlisted-value, lwo2-colour, lwo2-level, lwo2-side, lwo2-block, lwo2-unlisted}
+use Rattle.surface.proofs.Valuing.{valued-as, unlisted-value, lwo2-colour, lwo2-level, lwo2-side, lwo2-unlisted}
 use mathlib.Core.Path.{sym, _∙_}
 use Rattle.surface.proofs.value.lwo2_value.Statement.{statement}
 use Rattle.surface.proofs.value.lwo2_value.Tie as tie
@@ -17,10 +18,7 @@ returns-3 : tie.Need-returns-3
 returns-3 c = valued-as (lwo2-side _ (c .before .if3 .taken)) (c .side .ensures)
 
 returns-4 : tie.Need-returns-4
-returns-4 c = valued-as (lwo2-block _ (c .before .if4 .taken)) (c .textures .ensures)
-
-returns-5 : tie.Need-returns-5
-returns-5 c = unlisted-value (lwo2-unlisted _ (c .before .before .before .before .if1 .left) (sym (c .before .before .before .is-level .ensures) ∙ c .before .before .if2 .left) (c .before .if3 .left) (c .if4 .left)) (c .before .before .before .before .before .before .pre)
+returns-4 c = unlisted-value (lwo2-unlisted _ (c .before .before .before .if1 .left) (sym (c .before .before .is-level .ensures) ∙ c .before .if2 .left) (c .if3 .left)) (c .before .before .before .before .before .pre)
 
 pub lwo2-value-spec : {M : Type 1} → statement M
 lwo2-value-spec =
@@ -34,6 +32,4 @@ lwo2-value-spec =
     returns-2
     (λ c κs. search needs)
     returns-3
-    (λ c κs. search needs)
-    returns-4
-    returns-5)
+    returns-4)

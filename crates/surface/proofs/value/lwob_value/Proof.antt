@@ -1,3 +1,4 @@
+-- By tag, as the specification goes by it.
 use borrow.Author.Needs.{needs}
 use Rattle.surface.proofs.Valuing.{valued-as, unlisted-value, lwob-colour, lwob-level, lwob-long, lwob-flags, lwob-unlisted}
 use mathlib.Core.Path.{sym, _∙_}

@@ -1,3 +1,4 @@
+-- Two bytes are left, so the number is there, and its quotient has the bits of the specification.
 use borrow.Author.Needs.{needs}
 use mir.Val.{toZ, ofZ}
 use mir.Syntax.{w16}

@@ -1,3 +1,4 @@
+-- Two bytes are left, and the number is judged after it is read.
 use borrow.Author.Needs.{needs}
 use Rattle.format.specs.Surfaces.{sideNumber}
 use Rattle.format.specs.declared.Fault.the-variants.{SurfaceValue}

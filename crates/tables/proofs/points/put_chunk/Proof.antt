@@ -1,8 +1,7 @@
 use borrow.Author.Needs.{needs}
-use native.Mathlib.Omega.{arith}
 use borrow.Author.Tests.{eq-eqb, ne-eqb}
 use Rattle.format.specs.Bytes.{number}
-use Rattle.tables.proofs.Pointing.{chunk-none, chunk-points, chunk-length}
+use Rattle.tables.proofs.Pointing.{chunk-none, chunk-room, chunk-points}
 use Rattle.tables.proofs.points.put_chunk.Statement.{statement}
 use Rattle.tables.proofs.points.put_chunk.Tie as tie
 
@@ -12,11 +11,7 @@ returns c = chunk-none (ne-eqb _ _ (c .if1 .taken))
 
 put-points-requires : tie.Need-put-points-requires
 unfolding number
-put-points-requires c κs =
-    let u = c .before .before .before .before in
-    let r = u .pre in
-    let n = chunk-length (u .args .kind) (r .before) (u .args .tag) (u .args .s .now) (r .part) (eq-eqb _ _ (c .before .if1 .left)) (r .sound) in
-    omega (arith, n, r .fits)
+put-points-requires c κs = chunk-room (eq-eqb _ _ (c .before .if1 .left)) (c .before .before .before .before .pre)
 
 returns-2 : tie.Need-returns-2
 unfolding number

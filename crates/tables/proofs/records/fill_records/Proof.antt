@@ -57,7 +57,12 @@ slice-aggregate-put-chunk : tie.Need-slice-aggregate-put-chunk Inv-loop μ-loop
 slice-aggregate-put-chunk c = let k = c .before .before .before .before .before .before .before .loop .inv in sym (length-take-le _ _ (k .names-held .few))
 
 put-chunk-requires : tie.Need-put-chunk-requires Inv-loop μ-loop
-put-chunk-requires c κs = listed-room (c .before .before .before .before .before .before .before .before .loop .inv)
+put-chunk-requires c κs =
+    let k = c .before .before .before .before .before .before .before .before .loop .inv in
+    let this = walking.turn (k .walking) (header (c .before .before .before .before)) in (
+      record { before = k .walking .before; part = this .part; sound = this .here },
+      listed-room k,
+    )
 
 loop-less : tie.Need-loop-less Inv-loop μ-loop
 loop-less c =

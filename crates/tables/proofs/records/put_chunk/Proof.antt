@@ -3,7 +3,7 @@ use borrow.Author.Tests.{eq-eqb, ne-eqb}
 use Rattle.format.specs.Bytes.{number}
 use Rattle.wire.specs.declared.cursor.Text.{Text}
 use Rattle.wire.specs.Answers.{TextAt}
-use Rattle.tables.proofs.Surfaced.{put-nothing, never-open, put-surface, name-inside}
+use Rattle.tables.proofs.Surfaced.{put-nothing, sound-body, never-open, put-surface, name-inside}
 use Rattle.tables.proofs.records.put_chunk.Statement.{statement}
 use Rattle.tables.proofs.records.put_chunk.Tie as tie
 
@@ -19,7 +19,11 @@ returns-2 : tie.Need-returns-2
 unfolding number
 returns-2 c =
     let u = c .before .before in
-    never-open (eq-eqb _ _ (u .before .if1 .left)) (rw (c .enum-told .given .1) at (u .string .ensures))
+    absurd (never-open (eq-eqb _ _ (u .before .if1 .left)) (c .before .before .before .before .before .before .before .before .pre .0) (rw (c .enum-told .given .1) at (u .string .ensures)))
+
+record-of-requires : tie.Need-record-of-requires
+unfolding number
+record-of-requires c κs = sound-body (eq-eqb _ _ (c .before .before .before .before .if1 .left)) (c .before .before .before .before .before .before .before .before .before .pre .0)
 
 add-put-record : tie.Need-add-put-record
 add-put-record c =
@@ -30,7 +34,7 @@ part-put-record-end : tie.Need-part-put-record-end
 part-put-record-end c = name-inside (text (c .before .before))
 
 put-record-requires : tie.Need-put-record-requires
-put-record-requires c κs = (c .before .before .before .before .before .before .before .before .before .before .before .before .pre, c .before .before .record-of .ensures .known)
+put-record-requires c κs = (c .before .before .before .before .before .before .before .before .before .before .before .before .pre .1, c .before .before .record-of .ensures .known)
 
 returns-3 : tie.Need-returns-3
 unfolding number
@@ -48,7 +52,7 @@ put-chunk-spec =
     (λ c. search needs)
     (λ c. search needs)
     returns-2
-    (λ c κs. search needs)
+    record-of-requires
     add-put-record
     (λ c. search needs)
     (λ c. search needs)

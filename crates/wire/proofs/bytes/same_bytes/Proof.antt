@@ -1,3 +1,4 @@
+-- Of equal lengths, all bytes before the index are equal. Assumes nothing.
 use Prim.Native.Nat.{_-_}
 use lib.ListN.{length}
 use borrow.Author.Needs.{needs}

@@ -1,3 +1,4 @@
+-- The tag is good and the length has two bytes, and the rest is `framed`'s. Assumes nothing.
 use borrow.Author.Needs.{needs}
 use denote.Ref.{now}
 use borrow.Author.Tests.{not-true, not-false}

@@ -1,5 +1,5 @@
-use borrow.Author.Needs.{needs}
-use Rattle.surface.proofs.Recording.{missing-is}
+-- The missing values, by their bits.
+use Rattle.surface.proofs.Settling.{missing-is}
 use Rattle.surface.proofs.record.Record.missing.Statement.{statement}
 use Rattle.surface.proofs.record.Record.missing.Tie as tie
 

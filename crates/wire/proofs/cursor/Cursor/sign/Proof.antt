@@ -1,3 +1,4 @@
+-- What is known of an I2 is known of its sign and absolute value. Assumes nothing.
 use borrow.Author.Needs.{needs}
 use mathlib.Core.Path.{_≡_, sym, ap, _∙_}
 use mir.Syntax.{w16}

@@ -1,13 +1,23 @@
+-- Four bytes stand at the place, or the item is cut. Assumes nothing.
+use mathlib.Core.Path.{sym, _∙_}
+use native.Mathlib.Omega.{arith}
 use borrow.Author.Needs.{needs}
+use borrow.Author.Tests.{ltb-true, ltb-false}
 use Rattle.format.proofs.Places.{uint-cut, uint-whole}
 use Rattle.wire.proofs.cursor.Cursor.u4.Statement.{statement}
 use Rattle.wire.proofs.cursor.Cursor.u4.Tie as tie
 
 returns : tie.Need-returns
-returns c = uint-cut 4 (search needs)
+returns c = uint-cut 4 (let e = sym (c .before .is-cut .ensures) ∙ c .if1 .taken in omega (arith, ltb-true))
+
+word-requires : tie.Need-word-requires
+word-requires c κs = ltb-false _ _ (sym (c .before .is-cut .ensures) ∙ c .if1 .left)
+
+add-t6 : tie.Need-add-t6
+add-t6 c = let e = sym (c .before .before .is-cut .ensures) ∙ c .before .if1 .left in record { fits = omega (arith, ltb-false, c .before .before .before .before .good) }
 
 returns-2 : tie.Need-returns-2
-returns-2 c = uint-whole 4 (search needs) (c .word .ensures)
+returns-2 c = uint-whole 4 (ltb-false _ _ (sym (c .before .before .is-cut .ensures) ∙ c .before .if1 .left)) (c .word .ensures)
 
 pub u4-spec : {M : Type 1} → statement M
-u4-spec = tie.close (tie.spec (λ c κs. search needs) returns (λ c κs. search needs) (λ c. search needs) returns-2)
+u4-spec = tie.close (tie.spec (λ c κs. search needs) returns word-requires add-t6 returns-2)

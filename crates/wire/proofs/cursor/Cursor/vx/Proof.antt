@@ -1,3 +1,4 @@
+-- By its first byte a VX is the low 24 bits of a U4, or a U2. Assumes nothing.
 use borrow.Author.Needs.{needs}
 use Rattle.format.proofs.Places.{vx-cut, vx-long, vx-short}
 use Rattle.wire.proofs.cursor.Cursor.vx.Statement.{statement}
@@ -14,7 +15,14 @@ returns-2 c =
     vx-long (u .before .before .byte .ensures) (u .before .if1 .taken) (rw (c .before .n .given .1) at (u .u4 .ensures))
 
 returns-3 : tie.Need-returns-3
-returns-3 c = vx-short (c .before .before .byte .ensures) (c .before .if1 .left) (c .u2 .ensures)
+returns-3 c =
+    let u = c .before .before in
+    vx-short (u .before .before .byte .ensures) (u .before .if1 .left) (rw (c .enum-told2 .given .1) at (u .u2 .ensures))
+
+returns-4 : tie.Need-returns-4
+returns-4 c =
+    let u = c .before .before .before in
+    vx-short (u .before .before .byte .ensures) (u .before .if1 .left) (rw (c .before .n2 .given .1) at (u .u2 .ensures))
 
 pub vx-spec : {M : Type 1} → statement M
 vx-spec =
@@ -27,4 +35,7 @@ vx-spec =
     returns
     returns-2
     (λ c κs. search needs)
-    returns-3)
+    (λ c. search needs)
+    (λ c. search needs)
+    returns-3
+    returns-4)

@@ -1,0 +1,524 @@
+-- What every reader obeys, by one induction over how readers are made: a fault is a chunk's and lies within the chunk, and what is read of bytes is good.
+use Prim.Native.Nat.{ℕ, zero, suc, _+_, _-_, _*_, _%_, _≤_, _<_}
+use mathlib.Core.Path.{_≡_, refl, sym, ap, _∙_}
+use mathlib.Core.List.{List, [], _∷_, _++_, map}
+use mathlib.Core.Bool.{Bool, true, false, not, _&&_, _||_, and-eq-true-iff}
+use native.Mathlib.Omega.{arith}
+use lib.Dec.{leb, ltb, eqb}
+use lib.ListN.{length, take, drop, getD, length-take, length-drop}
+use lib.IntN.{ℤ, pos, negsuc}
+use borrow.Author.Tests.{leb-true, le-leb, lt-ltb, eq-eqb, eqb-true, ltb-true, ltb-false, not-true}
+use Rattle.format.specs.declared.Kind.{Kind}
+use Rattle.format.specs.declared.Kind.the-variants.{LWOB, LWO2}
+use Rattle.format.specs.declared.Container.{Container}
+use Rattle.format.specs.declared.Container.the-variants.{Surf, Blok, Attributes}
+use Rattle.format.specs.declared.Fault.{Fault}
+use Rattle.format.specs.declared.Fault.the-variants.{BadHeader, WrongLength, ItemCut, StringOpen, SurfaceValue}
+use Rattle.format.specs.Bytes.{if_then_else_, _is_, byte, between, number, signed, absolute, negative, finite, over255, over256, all, empty, every, sum, joined}
+use Rattle.format.specs.Limits.{surfaceLimit, vertexLimit, lwobVertexLimit}
+use Rattle.format.specs.Refusals.{numberOf}
+use Rattle.format.specs.Items.{Verdict, fine, fault, Got, Reader, _>>=_, _then_, give, _or_unless_, _and_, whole, times, upTo, many, item, uint, u2, i2, float, vx, long, string, toZero, stringSize}
+use Rattle.format.specs.Chunks.{Chunk, headerOf, ofLength, sizeOf, lengthOf, wellFormed, chunkOf, sub, unjudged}
+use Rattle.format.specs.Mesh.{Point, pointWords, Polygon, FACE, PATCH, Name}
+use Rattle.format.specs.Surfaces.{Value, value, level, floatLevel, lwobValue, lwo2Value, sideNumber, attribute, blockType, blockHeader, block, held, nested, surfaceDepth}
+use Rattle.format.specs.Bodies.{Part, points, names, polygons, tagging, surface, skipped, point, pointsBody, newName, name, namesAfter, namesBody, vertex, lwobVertices, listed, detail, details, detailsAfter, face, facesBody, patch, patchesBody, countBits, lwo2Vertices, polygon, polygonKind, polygonsBody, pair, taggingBody, surfaceName, surfaceBody}
+use Rattle.format.specs.Rules.{Before, there, count, when_read_, judge}
+use Rattle.format.specs.Written.{goodPolygon, noZero, goodNames}
+use Rattle.format.proofs.Facts.{every-at, all-first, all-rest, all-append-true, all-drop, all-part, between-true}
+use Rattle.laws.proofs.GoodPolygons.{is-good}
+use Rattle.format.proofs.Levels.{colour-finite, level-finite}
+
+-- ---- what is obeyed
+
+-- the faults of a chunk: 1, 2 and 3 are the whole file's
+abbrev pub ofChunk : Fault → Bool
+ofChunk why = between 4 15 (numberOf why)
+
+-- a place, and the bytes from there on, within a chunk that ends at `most`; they are bytes where B holds
+record Inside (B : Type 0) (most at : ℕ) (b : List ℕ) : Type 0 where
+  within : at + length b ≤ most
+  bytes : B → all byte b ≡ true
+
+pub record Faulty (most : ℕ) (why : Fault) (p : ℕ) : Type 0 where
+  pub of-chunk : ofChunk why ≡ true
+  pub within : p ≤ most
+
+abbrev Obeyed : (B : Type 0) (most : ℕ) {A : Type 0} → (A → Bool) → Verdict (Got A) → Type 0
+Obeyed B most good (fine g) = (B → good (g .value) ≡ true) × Inside B most (g .next) (g .left)
+Obeyed B most good (fault why p) = Faulty most why p
+
+record Obeys (B : Type 0) (most : ℕ) {A : Type 0} (good : A → Bool) (r : Reader A) : Type 0 where
+  each : (at : ℕ) (b : List ℕ) → Inside B most at b → Obeyed B most good (r at b)
+
+abbrev any : {A : Type 0} → A → Bool
+any x = true
+
+both : {a b : Bool} → a ≡ true → b ≡ true → a && b ≡ true
+both p q = rw (p, q)
+
+part-of : {a b : Bool} → a && b ≡ true → (a ≡ true) × (b ≡ true)
+part-of {a} {b} e = and-eq-true-iff a b .0 e
+
+-- ---- how readers are made
+
+module _ {B : Type 0} {most : ℕ} {A : Type 0} where
+  obeys-give : {x : A} {good : A → Bool} → (B → good x ≡ true) → Obeys B most good (give x)
+  obeys-give g = record { each = λ at b i. (g, i) }
+
+  obeys-more : {r : Reader A} {good better : A → Bool} → Obeys B most good r → ((x : A) → B → good x ≡ true → better x ≡ true) → Obeys B most better r
+  obeys-more {r} {good} {better} w so = record { each = λ at b i. by (r at b) (w .each at b i) }
+    where
+      by : (v : Verdict (Got A)) → Obeyed B most good v → Obeyed B most better v
+      by (fine g) o = (λ h. so (g .value) h (o .0 h), o .1)
+      by (fault why p) o = o
+
+  obeys-if : (t : Bool) {r q : Reader A} {good : A → Bool} → (t ≡ true → Obeys B most good r) → (t ≡ false → Obeys B most good q) → Obeys B most good (if t then r else q)
+  obeys-if true w v = w refl
+  obeys-if false w v = v refl
+
+  obeys-then : {C : Type 0} {r : Reader C} {has : C → Bool} {good : A → Bool} (k : C → Reader A) → Obeys B most has r → ((x : C) → (B → has x ≡ true) → Obeys B most good (k x))
+      → Obeys B most good (r >>= k)
+  unfolding _>>=_ _then_
+  obeys-then {C} {r} {has} {good} k w later = record { each = λ at b i. by (r at b) (w .each at b i) }
+    where
+      by : (v : Verdict (Got C)) → Obeyed B most has v → Obeyed B most good (v then λ y. k (y .value) (y .next) (y .left))
+      by (fine y) o = later (y .value) (o .0) .each (y .next) (y .left) (o .1)
+      by (fault why p) o = o
+
+  obeys-unless : {r : Reader A} {has : A → Bool} (why : Fault) (ok : A → Bool) → ofChunk why ≡ true → Obeys B most has r → Obeys B most (λ x. has x && ok x) (r or why unless ok)
+  unfolding _or_unless_ _then_
+  obeys-unless {r} {has} why ok chunk w = record { each = λ at b i. by at (omega (arith, i .within)) (r at b) (w .each at b i) }
+    where
+      judged : (at : ℕ) → at ≤ most → (y : Got A) → Obeyed B most has (fine y) → (t : Bool) → ok (y .value) ≡ t → Obeyed B most (λ x. has x && ok x) (if t then fine y else fault why at)
+      judged at l y o true e = (λ h. both (o .0 h) e, o .1)
+      judged at l y o false e = record { of-chunk = chunk; within = l }
+
+      by : (at : ℕ) → at ≤ most → (v : Verdict (Got A)) → Obeyed B most has v → Obeyed B most (λ x. has x && ok x) (v then λ y. if ok (y .value) then fine y else fault why at)
+      by at l (fine y) o = judged at l y o (ok (y .value)) refl
+      by at l (fault f p) o = o
+
+  obeys-length : {r : Reader A} {good : A → Bool} (width : ℕ) (ok : ℕ → Bool) → Obeys B most good r → Obeys B most good (ofLength width ok r)
+  unfolding ofLength numberOf
+  obeys-length {r} {good} width ok w = record { each = λ at b i. by at b i (ok (length b)) }
+    where
+      by : (at : ℕ) (b : List ℕ) → Inside B most at b → (t : Bool) → Obeyed B most good (if t then r at b else fault WrongLength (headerOf width at))
+      by at b i true = w .each at b i
+      by at b i false = record { of-chunk = refl; within = omega (arith, i .within) }
+
+  obeys-unjudged : (x : A) {good : A → Bool} → (B → good x ≡ true) → Obeys B most good (unjudged x)
+  unfolding unjudged all
+  obeys-unjudged x g = record { each = λ at b i. (g, record { within = omega (arith, i .within); bytes = λ h. refl }) }
+
+module _ {B : Type 0} {most : ℕ} {A : Type 0} {r : Reader A} {good : A → Bool} (w : Obeys B most good r) where
+  obeys-and : {rest : Reader (List A)} {goods : List A → Bool} (all-good : List A → Bool) → Obeys B most goods rest
+      → ((x : A) (xs : List A) → good x ≡ true → goods xs ≡ true → all-good (x ∷ xs) ≡ true) → Obeys B most all-good (r and rest)
+  obeys-and all-good v so = obeys-then _ w (λ x hx. obeys-then _ v (λ xs hxs. obeys-give (λ h. so x xs (hx h) (hxs h))))
+
+  -- so many of them
+  obeys-times : (n : ℕ) → Obeys B most (λ xs. eqb (length xs) n && all good xs) (times n r)
+  unfolding times all
+  obeys-times zero = obeys-give (λ h. refl)
+  obeys-times (suc n) =
+      obeys-and (λ xs. eqb (length xs) (suc n) && all good xs) (obeys-times n)
+      (λ x xs g gs. let so = part-of gs in both (eq-eqb (suc (length xs)) (suc n) (ap suc (eqb-true (length xs) n (so .0)))) (both g (so .1)))
+
+  obeys-upTo : (n at : ℕ) (b : List ℕ) → Inside B most at b → Obeyed B most (all good) (upTo n r at b)
+  unfolding upTo all
+  obeys-upTo zero at b i = (λ h. refl, i)
+  obeys-upTo (suc n) at [] i = (λ h. refl, i)
+  obeys-upTo (suc n) at (c ∷ b) i = obeys-and (all good) (record { each = obeys-upTo n }) (λ x xs g gs. both g gs) .each at (c ∷ b) i
+
+  obeys-many : Obeys B most (all good) (many r)
+  unfolding many
+  obeys-many = record { each = λ at b i. obeys-upTo (length b) at b i }
+
+-- a whole body: it is good, or its fault or its header is within
+abbrev Judged : {A : Type 0} → (B : Type 0) (most : ℕ) → (A → Bool) → Verdict A → Type 0
+Judged B most good (fine x) = B → good x ≡ true
+Judged B most good (fault why p) = Faulty most why p
+
+obeys-whole : {A B : Type 0} {most header : ℕ} {r : Reader A} {good : A → Bool} → Obeys B most good r → header ≤ most → (at : ℕ) (b : List ℕ) → Inside B most at b → Judged B most good (whole header r at b)
+unfolding whole _then_ numberOf
+obeys-whole {A} {B} {most} {header} {r} {good} w l at b i = by (r at b) (w .each at b i)
+  where
+    used : (x : A) (t : Bool) → (B → good x ≡ true) → Judged B most good (if t then fine x else fault WrongLength header)
+    used x true g = g
+    used x false g = record { of-chunk = refl; within = l }
+
+    by : (v : Verdict (Got A)) → Obeyed B most good v → Judged B most good (v then λ g. if empty (g .left) then fine (g .value) else fault WrongLength header)
+    by (fine g) o = used (g .value) (empty (g .left)) (o .0)
+    by (fault why p) o = o
+
+-- ---- items
+
+-- two bytes
+small : (bs : List ℕ) → length bs ≡ 2 → all byte bs ≡ true → ltb (number bs) 65536 ≡ true
+unfolding number
+small [] l e = absurd (omega arith)
+small (a ∷ []) l e = absurd (omega arith)
+small (a ∷ b ∷ []) l e =
+    let high = ltb-true a 256 (all-first byte a (b ∷ []) e) in
+    let low = ltb-true b 256 (all-first byte b [] (all-rest byte a (b ∷ []) e)) in
+    lt-ltb ((0 * 256 + a) * 256 + b) 65536 (omega arith)
+small (a ∷ b ∷ c ∷ bs) l e = absurd (omega arith)
+
+abbrev narrow : ℤ → Bool
+narrow z = leb (absolute z) 32768
+
+signed-narrow : (n : ℕ) → narrow (signed n) ≡ true
+signed-narrow n = by (ltb n 32768) refl
+  where
+    by : (t : Bool) → ltb n 32768 ≡ t → leb (absolute (if t then pos n else negsuc (65535 - n))) 32768 ≡ true
+    by true e = le-leb n 32768 (omega (arith, ltb-true n 32768 e))
+    by false e = le-leb (suc (65535 - n)) 32768 (omega (arith, ltb-false n 32768 e))
+
+no-zero : (b : List ℕ) → noZero (take (toZero b) b) ≡ true
+unfolding toZero all
+no-zero [] = refl
+no-zero (c ∷ b) = by (eqb c 0) refl (no-zero b)
+  where
+    by : (t : Bool) → eqb c 0 ≡ t → noZero (take (toZero b) b) ≡ true → noZero (take (if t then 0 else suc (toZero b)) (c ∷ b)) ≡ true
+    by true e later = refl
+    by false e later = rw e later
+
+module _ {B : Type 0} {most : ℕ} where
+  left-inside : (at n : ℕ) (b : List ℕ) → n ≤ length b → Inside B most at b → Inside B most (at + n) (drop n b)
+  left-inside at n b l i = record { within = omega (arith, i .within, length-drop n b); bytes = λ h. all-drop byte b n (i .bytes h) }
+
+  obeys-item : (n : ℕ) → Obeys B most (λ bs. eqb (length bs) n && all byte bs) (item n)
+  unfolding item numberOf
+  obeys-item n = record { each = λ at b i. by at b i (leb n (length b)) refl }
+    where
+      by : (at : ℕ) (b : List ℕ) → Inside B most at b → (t : Bool) → leb n (length b) ≡ t
+          → Obeyed B most (λ bs. eqb (length bs) n && all byte bs) (if t then give (take n b) (at + n) (drop n b) else fault ItemCut at)
+      by at b i true l =
+          let few = leb-true n (length b) l in
+          (λ h. both (eq-eqb (length (take n b)) n (omega (arith, length-take n b))) (all-part byte b 0 n (i .bytes h)), left-inside at n b few i)
+      by at b i false l = record { of-chunk = refl; within = omega (arith, i .within) }
+
+  obeys-uint : (n : ℕ) → Obeys B most any (uint n)
+  unfolding uint
+  obeys-uint n = obeys-then _ (obeys-item n) (λ bytes h. obeys-give (λ h. refl))
+
+  obeys-u2 : Obeys B most (λ n. ltb n 65536) u2
+  unfolding uint
+  obeys-u2 = obeys-then _ (obeys-item 2) (λ bytes has. obeys-give (λ h. let so = part-of (has h) in small bytes (eqb-true (length bytes) 2 (so .0)) (so .1)))
+
+  obeys-i2 : Obeys B most narrow i2
+  unfolding i2
+  obeys-i2 = obeys-then _ (obeys-uint 2) (λ n has. obeys-give (λ h. signed-narrow n))
+
+  obeys-float : Obeys B most finite float
+  unfolding float numberOf
+  obeys-float = obeys-unless _ finite refl (obeys-uint 4)
+
+  obeys-vx : Obeys B most any vx
+  unfolding vx
+  obeys-vx = record { each = λ at b. obeys-if (long b) (λ e. obeys-then _ (obeys-uint 4) (λ n h. obeys-give (λ h. refl))) (λ e. obeys-uint 2) .each at b }
+
+  obeys-string : Obeys B most noZero string
+  unfolding string numberOf
+  obeys-string = record {
+    each = λ at b i. by at b i (leb (stringSize (toZero b)) (length b)) (all (eqb 0) (take (stringSize (toZero b) - toZero b) (drop (toZero b) b))) refl;
+  }
+    where
+      by : (at : ℕ) (b : List ℕ) → Inside B most at b → (t u : Bool) → leb (stringSize (toZero b)) (length b) ≡ t
+          → Obeyed B most noZero (if t && u then give (take (toZero b) b) (at + stringSize (toZero b)) (drop (stringSize (toZero b)) b) else fault StringOpen at)
+      by at b i true true l = (λ h. no-zero b, left-inside at (stringSize (toZero b)) b (leb-true (stringSize (toZero b)) (length b) l) i)
+      by at b i true false l = record { of-chunk = refl; within = omega (arith, i .within) }
+      by at b i false true l = record { of-chunk = refl; within = omega (arith, i .within) }
+      by at b i false false l = record { of-chunk = refl; within = omega (arith, i .within) }
+
+  -- ---- sub-chunks
+
+  obeys-sub : {A : Type 0} {good : A → Bool} (inside : ℕ → Reader A) → ((t : ℕ) → Obeys B most good (inside t)) → Obeys B most good (sub inside)
+  unfolding sub chunkOf wellFormed sizeOf _then_ numberOf
+  obeys-sub {A} {good} inside w = record { each = λ at b i. by at b i (wellFormed 2 b) refl }
+    where
+      after : (v : Verdict A) (next : ℕ) (left : List ℕ) → Judged B most good v → Inside B most next left → Obeyed B most good (v then λ a. give a next left)
+      after (fine x) next left g i = (g, i)
+      after (fault why p) next left g i = g
+
+      found : ℕ → List ℕ → Got Chunk
+      found at b = record { value = record { tag = number (take 4 b); body = take (lengthOf 2 b) (drop 6 b) }; next = at + sizeOf 2 (lengthOf 2 b); left = drop (sizeOf 2 (lengthOf 2 b)) b }
+
+      by : (at : ℕ) (b : List ℕ) → Inside B most at b → (t : Bool) → wellFormed 2 b ≡ t
+          → Obeyed B most good ((if t then fine (found at b) else fault BadHeader at) then λ c. whole at (inside (c .value .tag)) (at + 6) (c .value .body) then λ a. give a (c .next) (c .left))
+      by at b i false ok = record { of-chunk = refl; within = omega (arith, i .within) }
+      by at b i true ok =
+          let n = lengthOf 2 b in
+          let room : sizeOf 2 n ≤ length b = leb-true (sizeOf 2 n) (length b) (every-at _ 2 ok) in
+          let body : Inside B most (at + 6) (take n (drop 6 b)) = record { within = omega (arith, i .within, length-take n (drop 6 b), length-drop 6 b); bytes = λ h. all-part byte b 6 n (i .bytes h) } in
+          after (whole at (inside (number (take 4 b))) (at + 6) (take n (drop 6 b))) _ _ (obeys-whole (w _) (omega (arith, i .within)) (at + 6) (take n (drop 6 b)) body) (left-inside at (sizeOf 2 n) b room i)
+
+-- ---- surfaces
+
+-- a value of which a record can be made
+abbrev pub goodValue : Kind → Value → Bool
+goodValue LWOB v = if v .tag is "COLR" then all finite (v .words) else if level (v .tag) then all finite (v .words) else if floatLevel (v .tag) then all finite (v .words) else true
+goodValue LWO2 v = if v .tag is "COLR" then all finite (v .words) else if level (v .tag) then all finite (v .words) else if v .tag is "SIDE" then all sideNumber (v .words) else true
+
+-- the values of the sub-chunks of a SURF; a block gives none that are kept
+abbrev goodIn : Container → List Value → Bool
+goodIn (Surf kind) vs = all (goodValue kind) vs
+goodIn (Blok at) vs = true
+goodIn Attributes vs = true
+
+colours-finite : (bs : List ℕ) → all byte bs ≡ true → all finite (map over255 bs) ≡ true
+unfolding all
+colours-finite [] e = refl
+colours-finite (b ∷ bs) e = both (colour-finite b (ltb-true b 256 (all-first byte b bs e))) (colours-finite bs (all-rest byte b bs e))
+
+all-joined : {A : Type 0} (p : A → Bool) (xss : List (List A)) → all (all p) xss ≡ true → all p (joined xss) ≡ true
+unfolding all joined
+all-joined p [] e = refl
+all-joined p (xs ∷ xss) e = let so = part-of e in all-append-true p xs (joined xss) (so .0) (all-joined p xss (so .1))
+
+good-joined : (c : Container) (vss : List (List Value)) → all (goodIn c) vss ≡ true → goodIn c (joined vss) ≡ true
+good-joined (Surf kind) vss e = all-joined (goodValue kind) vss e
+good-joined (Blok at) vss e = refl
+good-joined Attributes vss e = refl
+
+module _ {B : Type 0} {most : ℕ} where
+  obeys-lwob-value : (t : ℕ) → Obeys B most (all (goodValue LWOB)) (lwobValue t)
+  unfolding lwobValue all
+  obeys-lwob-value t =
+      obeys-if (t is "COLR")
+      (λ e. obeys-length _ _ (obeys-then _ (obeys-item 4) (λ bs has. obeys-give (λ h. rw e (both (colours-finite (take 3 bs) (all-part byte bs 0 3 (and-eq-true-iff (eqb (length bs) 4) (all byte bs) .0 (has h) .1))) refl)))))
+      (λ e₁. obeys-if (level t)
+      (λ e. obeys-length _ _ (obeys-then _ obeys-i2 (λ z has. obeys-give (λ h. rw (e₁, e) (both (both (level-finite z (leb-true (absolute z) 32768 (has h))) refl) refl)))))
+      (λ e₂. obeys-if (floatLevel t)
+      (λ e. obeys-length _ _ (obeys-then _ obeys-float (λ x has. obeys-give (λ h. rw (e₁, e₂, e) (both (both (has h) refl) refl)))))
+      (λ e₃. obeys-if (t is "FLAG") (λ e. obeys-length _ _ (obeys-then _ (obeys-uint 2) (λ n has. obeys-give (λ h. rw (e₁, e₂, e₃))))) (λ e. obeys-unjudged [] (λ h. refl)))))
+
+  obeys-lwo2-value : (t : ℕ) → Obeys B most (all (goodValue LWO2)) (lwo2Value t)
+  unfolding lwo2Value all numberOf
+  obeys-lwo2-value t =
+      obeys-if (t is "COLR")
+      (λ e. obeys-then _ obeys-float (λ r hr. obeys-then _ obeys-float (λ g hg. obeys-then _ obeys-float (λ b hb. obeys-then _ obeys-vx (λ v hv. obeys-give (λ h. rw e (both (both (hr h) (both (hg h) (both (hb h) refl))) refl)))))))
+      (λ e₁. obeys-if (level t)
+      (λ e. obeys-then _ obeys-float (λ x has. obeys-then _ obeys-vx (λ v hv. obeys-give (λ h. rw (e₁, e) (both (both (has h) refl) refl)))))
+      (λ e₂. obeys-if (t is "SIDE")
+      (λ e. obeys-length _ _ (obeys-then _ (obeys-unless _ sideNumber refl (obeys-uint 2)) (λ n has. obeys-give (λ h. rw (e₁, e₂, e) (both (both (has h) refl) refl)))))
+      (λ e. obeys-unjudged [] (λ h. refl))))
+
+  module _ {inner : Container → Reader (List Value)} (w : (c : Container) → Obeys B most (goodIn c) (inner c)) where
+    obeys-attribute : (t : ℕ) → Obeys B most any (attribute inner t)
+    unfolding attribute
+    obeys-attribute t = obeys-if (t is "TMAP") (λ e. w Attributes) (λ e. obeys-unjudged [] (λ h. refl))
+
+    obeys-block : Obeys B most (all (goodValue LWO2)) (block inner)
+    unfolding block numberOf all
+    obeys-block = record { each = λ at b i. by at b i (empty b) }
+      where
+        by : (at : ℕ) (b : List ℕ) → Inside B most at b → (t : Bool)
+            → Obeyed B most (all (goodValue LWO2)) (if t then fault SurfaceValue (headerOf 2 at) else (inner (Blok (headerOf 2 at)) >>= (λ vs. give [])) at b)
+        by at b i true = record { of-chunk = refl; within = omega (arith, i .within) }
+        by at b i false = obeys-then _ (w (Blok (headerOf 2 at))) (λ vs h. obeys-give (λ h. refl)) .each at b i
+
+    -- a BLOK's header stands before what it holds
+    obeys-held : (c : Container) (t : ℕ) → Obeys B most (goodIn c) (held inner c t)
+    unfolding held blockHeader numberOf
+    obeys-held (Surf LWOB) t = obeys-lwob-value t
+    obeys-held (Surf LWO2) t = obeys-if (t is "BLOK") (λ e. obeys-block) (λ e. obeys-lwo2-value t)
+    obeys-held (Blok blok) t = record { each = λ at b i. by at b i (eqb (headerOf 2 at) (blok + 6)) refl }
+      where
+        first : blok ≤ most → Obeys B most any (if blockType t then (string >>= λ ordinal. inner Attributes) else (λ at s. fault SurfaceValue blok))
+        first l = obeys-if (blockType t) (λ e. obeys-then _ obeys-string (λ ordinal h. w Attributes)) (λ e. record { each = λ at b i. record { of-chunk = refl; within = l } })
+
+        by : (at : ℕ) (b : List ℕ) → Inside B most at b → (u : Bool) → eqb (headerOf 2 at) (blok + 6) ≡ u
+            → Obeyed B most any ((if u then blockHeader inner blok t at else attribute inner t at) b)
+        by at b i true e = first (omega (arith, i .within, eqb-true (headerOf 2 at) (blok + 6) e)) .each at b i
+        by at b i false e = obeys-attribute t .each at b i
+    obeys-held Attributes t = obeys-attribute t
+
+  obeys-nested : (depth : ℕ) (c : Container) → Obeys B most (goodIn c) (nested depth c)
+  unfolding nested all
+  obeys-nested zero (Surf kind) = obeys-unjudged [] (λ h. refl)
+  obeys-nested zero (Blok at) = obeys-unjudged [] (λ h. refl)
+  obeys-nested zero Attributes = obeys-unjudged [] (λ h. refl)
+  obeys-nested (suc depth) c = obeys-then _ (obeys-many (obeys-sub _ (obeys-held (obeys-nested depth) c))) (λ vss has. obeys-give (λ h. good-joined c vss (has h)))
+
+-- ---- bodies
+
+-- What a chunk contributes is good, after what stands before it.
+abbrev pub goodPart : Kind → Before → Part → Bool
+goodPart kind b (points ps) = all (λ p. all finite (pointWords p)) ps
+goodPart kind b (names ns) = not (there (b .names)) && goodNames [] ns
+goodPart kind b (polygons ps n) = all (goodPolygon (count (b .points)) (count (b .names))) ps
+goodPart kind b (tagging ts) = all (λ t. between 1 (count (b .names)) (t .1) && leb (t .1) surfaceLimit) ts
+goodPart kind b (surface n vs) = all (goodValue kind) vs
+goodPart kind b skipped = true
+
+module _ {B : Type 0} {most : ℕ} where
+  obeys-points : (kind : Kind) (b : Before) → Obeys B most (goodPart kind b) (pointsBody kind)
+  unfolding pointsBody point all
+  obeys-points kind b =
+      obeys-length _ _
+      (obeys-then _
+      (obeys-many (obeys-then _ obeys-float (λ x hx. obeys-then _ obeys-float (λ y hy. obeys-then _ obeys-float (λ z hz. obeys-give {good = λ (p : Point). all finite (pointWords p)} (λ h. both (hx h) (both (hy h) (both (hz h) refl))))))))
+      (λ ps has. obeys-give has))
+
+  obeys-names-after : (k : ℕ) (earlier : List Name) → Obeys B most (goodNames earlier) (namesAfter k earlier)
+  unfolding namesAfter name goodNames numberOf
+  obeys-names-after k earlier = record { each = from k earlier }
+    where
+      from : (k : ℕ) (earlier : List Name) (at : ℕ) (b : List ℕ) → Inside B most at b → Obeyed B most (goodNames earlier) (namesAfter k earlier at b)
+      from zero earlier at b i = (λ h. refl, i)
+      from (suc k) earlier at [] i = (λ h. refl, i)
+      from (suc k) earlier at (c ∷ b) i =
+          obeys-then _ (obeys-unless _ (newName earlier) refl obeys-string)
+          (λ n hn. obeys-then _ (record { each = from k (earlier ++ (n ∷ [])) }) (λ ns hns. obeys-give (λ h. let so = and-eq-true-iff (noZero n) (newName earlier n) .0 (hn h) in both (both (so .1) (so .0)) (hns h)))) .each at (c ∷ b) i
+
+  obeys-names : (kind : Kind) (b : Before) → not (there (b .names)) ≡ true → Obeys B most (goodPart kind b) namesBody
+  unfolding namesBody
+  obeys-names kind b first = record { each = λ at s. obeys-then _ (obeys-names-after (length s) []) (λ ns has. obeys-give (λ h. both first (has h))) .each at s }
+
+-- vertices that a polygon may have
+abbrev goodVertices : (limit pointCount : ℕ) → List ℕ → Bool
+goodVertices limit pointCount vs = between 1 limit (length vs) && all (λ v. ltb v pointCount) vs
+
+counted : (limit pointCount n : ℕ) (vs : List ℕ) → between 1 limit n ≡ true → eqb (length vs) n && all (λ v. ltb v pointCount) vs ≡ true → goodVertices limit pointCount vs ≡ true
+counted limit pointCount n vs range e =
+    let so = and-eq-true-iff (eqb (length vs) n) (all (λ v. ltb v pointCount) vs) .0 e in
+    both (ap (between 1 limit) (eqb-true (length vs) n (so .0)) ∙ range) (so .1)
+
+-- with vertices that one may have, a kind and a surface number
+polygon-good : (limit pointCount nameCount : ℕ) (p : Polygon) → limit ≤ vertexLimit → goodVertices limit pointCount (p .vertices) ≡ true → between FACE PATCH (p .kind) ≡ true → p .surface ≤ nameCount → p .surface ≤ surfaceLimit
+    → goodPolygon pointCount nameCount p ≡ true
+polygon-good limit pointCount nameCount p l vs kind few small =
+    let so = and-eq-true-iff (between 1 limit (length (p .vertices))) (all (λ v. ltb v pointCount) (p .vertices)) .0 vs in
+    let range = between-true 1 limit (length (p .vertices)) (so .0) in
+    is-good (record { kinds = between-true FACE PATCH (p .kind) kind; count = (range .0, omega arith); vertices = so .1; named = few; numbered = small })
+
+all-map : {A C : Type 0} (p : C → Bool) (f : A → C) (xs : List A) → all (λ x. p (f x)) xs ≡ true → all p (map f xs) ≡ true
+unfolding all
+all-map p f [] e = refl
+all-map p f (x ∷ xs) e = let so = and-eq-true-iff (p (f x)) (all (λ x. p (f x)) xs) .0 e in both (so .0) (all-map p f xs (so .1))
+
+-- a surface number that names one of the names
+named : (pointCount nameCount : ℕ) (z : ℤ) (p : Polygon) → goodVertices lwobVertexLimit pointCount (p .vertices) ≡ true → between FACE PATCH (p .kind) ≡ true → p .surface ≡ absolute z → narrow z ≡ true → listed nameCount z ≡ true
+    → goodPolygon pointCount nameCount p ≡ true
+named pointCount nameCount z p vs kind same few l =
+    let range = between-true 1 nameCount (absolute z) l in
+    polygon-good lwobVertexLimit pointCount nameCount p (omega arith) vs kind (omega arith) (omega (arith, leb-true (absolute z) 32768 few))
+
+kind-good : (t : ℕ) → between FACE PATCH (polygonKind t) ≡ true
+kind-good t = by (t is "FACE")
+  where
+    by : (x : Bool) → between FACE PATCH (if x then FACE else PATCH) ≡ true
+    by true = refl
+    by false = refl
+
+module _ {B : Type 0} {most : ℕ} (pointCount nameCount : ℕ) where
+  obeys-lwob-vertices : Obeys B most (goodVertices lwobVertexLimit pointCount) (lwobVertices pointCount)
+  unfolding lwobVertices numberOf
+  obeys-lwob-vertices =
+      obeys-then _ (obeys-unless _ (between 1 lwobVertexLimit) refl (obeys-uint 2))
+      (λ n has. obeys-more (obeys-times (obeys-unless _ (λ v. ltb v pointCount) refl (obeys-uint 2)) n) (λ vs h e. counted lwobVertexLimit pointCount n vs (has h) e))
+
+  obeys-details : (z : ℤ) → Obeys B most any (detailsAfter pointCount nameCount z)
+  unfolding detailsAfter details detail numberOf
+  obeys-details z =
+      obeys-if (negative z)
+      (λ e. obeys-then _ (obeys-uint 2) (λ n h. obeys-then _ (obeys-times (obeys-then {good = any} _ obeys-lwob-vertices (λ vs h. obeys-more (obeys-unless _ _ refl (obeys-unless _ _ refl obeys-i2)) (λ x h e. refl))) n) (λ ds h. obeys-give (λ h. refl))))
+      (λ e. obeys-give (λ h. refl))
+
+  obeys-faces : (kind : Kind) (b : Before) → count (b .points) ≡ pointCount → count (b .names) ≡ nameCount → Obeys B most (goodPart kind b) (facesBody pointCount nameCount)
+  unfolding facesBody face numberOf
+  obeys-faces kind b is-points is-names =
+      obeys-then _
+      (obeys-many (obeys-then {good = λ (f : Polygon × ℕ). goodPolygon pointCount nameCount (f .0)} _ obeys-lwob-vertices
+      (λ vs hvs. obeys-then _ (obeys-unless _ (listed nameCount) refl obeys-i2)
+      (λ z hz. obeys-then _ (obeys-details z)
+      (λ n hn. obeys-give (λ h. let so = and-eq-true-iff (narrow z) (listed nameCount z) .0 (hz h) in named pointCount nameCount z _ (hvs h) refl refl (so .0) (so .1)))))))
+      (λ fs has. obeys-give (λ h. rw (is-points, is-names) (all-map (goodPolygon pointCount nameCount) (λ (f : Polygon × ℕ). f .0) fs (has h))))
+
+  obeys-patches : (kind : Kind) (b : Before) → count (b .points) ≡ pointCount → count (b .names) ≡ nameCount → Obeys B most (goodPart kind b) (patchesBody pointCount nameCount)
+  unfolding patchesBody patch numberOf
+  obeys-patches kind b is-points is-names =
+      obeys-then _
+      (obeys-many (obeys-then {good = goodPolygon pointCount nameCount} _ obeys-lwob-vertices
+      (λ vs hvs. obeys-then _ (obeys-unless _ (λ z. not (negative z) && listed nameCount z) refl obeys-i2)
+      (λ z hz. obeys-give
+      (λ h. let so = and-eq-true-iff (narrow z) (not (negative z) && listed nameCount z) .0 (hz h) in let two = and-eq-true-iff (not (negative z)) (listed nameCount z) .0 (so .1) in named pointCount nameCount z _ (hvs h) refl refl (so .0) (two .1))))))
+      (λ ps has. obeys-give (λ h. rw (is-points, is-names) (has h)))
+
+  obeys-lwo2-vertices : Obeys B most (goodVertices vertexLimit pointCount) (lwo2Vertices pointCount)
+  unfolding lwo2Vertices numberOf
+  obeys-lwo2-vertices =
+      obeys-then _ (obeys-unless _ (λ n. leb 1 (countBits n)) refl (obeys-uint 2))
+      (λ n has. obeys-more (obeys-times (obeys-unless _ (λ v. ltb v pointCount) refl obeys-vx) (countBits n))
+      (λ vs h e. counted vertexLimit pointCount (countBits n) vs (both (has h) (le-leb (n % 1024) vertexLimit (omega arith))) e))
+
+  obeys-polygons : (kind : Kind) (b : Before) → count (b .points) ≡ pointCount → Obeys B most (goodPart kind b) (polygonsBody pointCount)
+  unfolding polygonsBody polygon numberOf
+  obeys-polygons kind b is-points =
+      obeys-then _ (obeys-unless _ _ refl (obeys-uint 4))
+      (λ t ht. obeys-then _
+      (obeys-many (obeys-then {good = goodPolygon pointCount (count (b .names))} _ obeys-lwo2-vertices
+      (λ vs hvs. obeys-give (λ h. polygon-good vertexLimit pointCount (count (b .names)) _ (omega arith) (hvs h) (kind-good t) (omega arith) (omega arith)))))
+      (λ ps has. obeys-give (λ h. rw is-points (has h))))
+
+  obeys-tagging : (kind : Kind) (b : Before) → count (b .names) ≡ nameCount → Obeys B most (goodPart kind b) (taggingBody pointCount nameCount)
+  unfolding taggingBody pair numberOf all
+  obeys-tagging kind b is-names =
+      obeys-then _ (obeys-uint 4)
+      (λ t ht. obeys-then {has = all (λ (u : ℕ × ℕ). between 1 nameCount (u .1) && leb (u .1) surfaceLimit)} _
+      (obeys-if (t is "SURF")
+      (λ e. obeys-many (obeys-then _ (obeys-unless _ _ refl obeys-vx)
+      (λ p hp. obeys-then _ (obeys-unless _ (λ u. ltb u nameCount) refl obeys-u2)
+      (λ u hu. obeys-give
+      (λ h. let so = and-eq-true-iff (ltb u 65536) (ltb u nameCount) .0 (hu h) in both (both (le-leb 1 (suc u) (omega arith)) (le-leb (suc u) nameCount (omega (arith, ltb-true u nameCount (so .1))))) (le-leb (suc u) surfaceLimit (omega (arith, ltb-true u 65536 (so .0)))))))))
+      (λ e. obeys-unjudged [] (λ h. refl)))
+      (λ ts has. obeys-give (λ h. rw is-names (has h))))
+
+module _ {B : Type 0} {most : ℕ} where
+  obeys-surface : (kind : Kind) (b : Before) → Obeys B most (goodPart kind b) (surfaceBody kind)
+  unfolding surfaceBody surfaceName
+  obeys-surface kind b = obeys-then _ (called kind) (λ n h. obeys-then _ (obeys-nested surfaceDepth (Surf kind)) (λ vs has. obeys-give has))
+    where
+      called : (kind : Kind) → Obeys B most any (surfaceName kind)
+      called LWOB = obeys-more obeys-string (λ n h e. refl)
+      called LWO2 = obeys-then _ obeys-string (λ n h. obeys-then _ obeys-string (λ source h. obeys-give (λ h. refl)))
+
+-- ---- chunks
+
+-- a chunk's judgement, after what stands before it
+record Sound (B : Type 0) (kind : Kind) (b : Before) (judging : List ℕ → Verdict Part) : Type 0 where
+  each : (body : List ℕ) → (B → all byte body ≡ true) → Judged B (8 + length body) (goodPart kind b) (judging body)
+
+module _ {B : Type 0} {kind : Kind} {b : Before} where
+  sound-when : {r : Reader Part} (ok : Bool) → (ok ≡ true → (most : ℕ) → Obeys B most (goodPart kind b) r) → Sound B kind b (when ok read r)
+  unfolding when_read_ numberOf
+  sound-when true w = record { each = λ body bytes. obeys-whole (w refl (8 + length body)) (omega arith) 8 body (record { within = omega arith; bytes = bytes }) }
+  sound-when false w = record { each = λ body bytes. record { of-chunk = refl; within = omega arith } }
+
+  sound-if : (t : Bool) {f g : List ℕ → Verdict Part} → Sound B kind b f → Sound B kind b g → Sound B kind b (if t then f else g)
+  sound-if true w v = w
+  sound-if false w v = v
+
+sound-judge : {B : Type 0} (kind : Kind) (b : Before) (t : ℕ) → Sound B kind b (judge kind b t)
+unfolding judge
+sound-judge LWOB b t =
+    sound-if (t is "PNTS") (sound-when _ (λ ok m. obeys-points LWOB b))
+    (sound-if (t is "SRFS") (sound-when _ (λ first m. obeys-names LWOB b first))
+    (sound-if (t is "POLS") (sound-when _ (λ ok m. obeys-faces _ _ LWOB b refl refl))
+    (sound-if (t is "PCHS") (sound-when _ (λ ok m. obeys-patches _ _ LWOB b refl refl))
+    (sound-if (t is "SURF") (sound-when _ (λ ok m. obeys-surface LWOB b)) (record { each = λ body bytes h. refl })))))
+sound-judge LWO2 b t =
+    sound-if (t is "PNTS") (sound-when _ (λ ok m. obeys-points LWO2 b))
+    (sound-if (t is "TAGS") (sound-when _ (λ first m. obeys-names LWO2 b first))
+    (sound-if (t is "POLS") (sound-when _ (λ ok m. obeys-polygons _ 0 LWO2 b refl))
+    (sound-if (t is "PTAG") (sound-when _ (λ ok m. obeys-tagging _ _ LWO2 b refl))
+    (sound-if (t is "SURF") (sound-when _ (λ ok m. obeys-surface LWO2 b)) (record { each = λ body bytes h. refl })))))
+
+-- a fault of a chunk is one of a chunk's, and lies within it
+pub fault-in-chunk : (kind : Kind) (b : Before) (t : ℕ) (body : List ℕ) {why : Fault} {p : ℕ} → judge kind b t body ≡ fault why p → Faulty (8 + length body) why p
+fault-in-chunk kind b t body {why} {p} e =
+    let j : Judged ⊥ (8 + length body) (goodPart kind b) (fault why p) = rw e at (sound-judge {B = ⊥} kind b t .each body (λ h. absurd h)) in j
+
+-- what a chunk of bytes contributes is good
+pub part-good : (kind : Kind) (b : Before) (t : ℕ) (body : List ℕ) {part : Part} → all byte body ≡ true → judge kind b t body ≡ fine part → goodPart kind b part ≡ true
+part-good kind b t body {part} bytes e =
+    let j : Judged (Unit {0}) (8 + length body) (goodPart kind b) (fine part) = rw e at (sound-judge {B = Unit} kind b t .each body (λ h. bytes)) in j tt
