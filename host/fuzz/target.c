@@ -11,7 +11,11 @@
  *   same refusal at a place moved by that chunk;
  * - an accepted mesh is written, and read again is the same, to the bit;
  * - tables that were changed in one bit are written and read again the same,
- *   or are no mesh. */
+ *   or are no mesh.
+ *
+ * And the answer to empty tables has to be the second program's, which runs in the
+ * same process: a fuzzer that looks for new branches sees that program's, since
+ * the library cannot be built to show its own. */
 #include "target.h"
 
 #include "../include/lwo.h"
@@ -23,16 +27,17 @@
 
 enum { POINTS, POLYGONS, VERTICES, NAMES, NAME_BYTES, RECORDS, TABLES };
 
-enum { NO_ROOM = 16, TOO_LONG = 18 };
+enum { NO_ROOM = LWO_NO_ROOM, TOO_LONG = LWO_OUT_TOO_LONG };
 
 /* The bytes of a word of each table, and the words of its entries. */
 static const size_t WORD[TABLES] = {4, 4, 4, 4, 1, 4};
-static const size_t ENTRY[TABLES] = {3, 3, 1, 1, 1, 10};
+static const size_t ENTRY[TABLES] = {LWO_POINT_WORDS, LWO_POLYGON_WORDS, 1, 1, 1,
+                                     LWO_RECORD_WORDS};
 
-/* The most bytes of each table for a byte of the file: a point has 12 bytes in
- * both, a polygon 12 for at least 4, a vertex 4 for at least 2, a name's length
- * 4 and its record 40 for at least 2. */
-static const size_t MOST[TABLES] = {1, 3, 2, 2, 1, 20};
+/* The most bytes of each table for a byte of the file: a point's words are 4 bytes
+ * in both, a polygon takes at least 4 bytes of the file, a vertex 2, and a name,
+ * with its length and its record, 2. */
+static const size_t MOST[TABLES] = {1, LWO_POLYGON_WORDS, 2, 2, 1, 2 * LWO_RECORD_WORDS};
 
 /* Longer inputs are passed over; no rule begins at this length. */
 enum { MOST_INPUT = 1 << 18 };
@@ -139,6 +144,22 @@ static void needed_words(const LwoAnswer *answer, size_t words[TABLES]) {
     }
 }
 
+/* The second program's answer: witness/src/lib.rs. */
+typedef struct {
+    uint64_t words[9];
+} WitnessAnswer;
+
+extern WitnessAnswer witness_read(const uint8_t *file, size_t length);
+
+static void check_witness(const LwoAnswer *told) {
+    const uint64_t words[9] = {told->number, told->place,   told->points,
+                               told->polygons, told->vertices, told->names,
+                               told->name_bytes, told->skipped, told->details};
+    WitnessAnswer witness = witness_read(input.start, input.bytes);
+    demand(memcmp(witness.words, words, sizeof words) == 0,
+           "the second program answers otherwise");
+}
+
 /* The answer to empty tables: a mesh's needs, or a refusal. */
 static LwoAnswer ask_needs(void) {
     static const size_t none[TABLES];
@@ -147,6 +168,7 @@ static LwoAnswer ask_needs(void) {
     demand(unchanged(&lent, 1), "a guard of an empty table was changed");
     demand(answer.number <= NO_ROOM, "the reader has no such number");
     demand(answer.place == 0 || answer.place < input.bytes, "the place is not in the file");
+    check_witness(&answer);
     return answer;
 }
 

@@ -8,14 +8,19 @@
  *
  * Both functions answer whatever bytes and numbers they are lent, and keep
  * nothing after they have returned. They allocate no memory and have no state,
- * so any number of threads may call them at once.
+ * so any number of threads may call them at once. They need the C library's
+ * memcpy and nothing else.
+ *
+ * The library is for Linux on x86-64 (System V calling convention), and the header
+ * for C99 and later and for C++. A whole program that uses them is
+ * host/examples/boards.c.
  *
  *
  * TABLES
  *
  * A table is lent as a pointer and a length in elements: words of 32 bits, or
- * bytes. No table may overlap another one, the file or the output. A table of
- * length 0 is allowed; its pointer is not followed, but must not be NULL.
+ * bytes. No table may overlap another one, the file or the output. A table, file
+ * or output of length 0 is allowed; its pointer is not followed, and may be NULL.
  *
  *   points      3 words a point: x, y, z, each the bits of a float, in file
  *               order
@@ -46,9 +51,9 @@
  *
  * READING IN TWO CALLS
  *
- * Call lwo_read with tables of length 0. The answer's number is then 0 for a
- * file with nothing to keep, LWO_NO_ROOM for any other file that has a mesh,
- * and the refusal for a file that has none. On the first two the needs are
+ * Call lwo_read with tables of length 0, each of them NULL. The answer's number is
+ * then 0 for a file with nothing to keep, LWO_NO_ROOM for any other file that has
+ * a mesh, and the refusal for a file that has none. On the first two the needs are
  * full: make tables of points * LWO_POINT_WORDS words,
  * polygons * LWO_POLYGON_WORDS words, vertices words, names words, name_bytes
  * bytes and names * LWO_RECORD_WORDS words, and call lwo_read again with the
@@ -69,14 +74,41 @@
 extern "C" {
 #endif
 
+/*
+ * The version of this header and of the library beside it. A change of the second
+ * number may change the words of a table.
+ */
+#define LWO_VERSION "0.1.0"
+#define LWO_VERSION_MAJOR 0
+#define LWO_VERSION_MINOR 1
+#define LWO_VERSION_PATCH 0
+#define LWO_VERSION_NUMBER                                                     \
+    (LWO_VERSION_MAJOR * 65536 + LWO_VERSION_MINOR * 256 + LWO_VERSION_PATCH)
+
+/* The version of the library that is linked, as LWO_VERSION_NUMBER has it. */
+uint32_t lwo_version(void);
+
 /* Bounds. */
 #define LWO_FILE_BYTES 16777216 /* the longest file read or written */
 #define LWO_NAME_BYTES 255      /* the longest name */
+
+/*
+ * The stack that a call of either function takes at most, in bytes; it does not
+ * grow with the file. Measured over generated files of every kind up to the
+ * longest: lwo_read took 1,040 bytes and lwo_write 424, or 3,592 where the dynamic
+ * linker has to look up memcpy, which is called there for the first time.
+ */
+#define LWO_STACK_BYTES 16384
 
 /* Words of an entry. */
 #define LWO_POINT_WORDS 3
 #define LWO_POLYGON_WORDS 3
 #define LWO_RECORD_WORDS 10
+
+/* Where in a polygon's entry its words stand. */
+#define LWO_POLYGON_KIND 0
+#define LWO_POLYGON_VERTICES 1
+#define LWO_POLYGON_SURFACE 2
 
 /* Kinds of polygon. */
 #define LWO_FACE 1

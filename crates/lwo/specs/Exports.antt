@@ -1,4 +1,5 @@
--- The answers of the exported functions, field by field, as the specification's.
+-- The answers of the exported functions, field by field, as the specification's, and the library's version.
+use Prim.Native.Nat.{ℕ, _+_, _*_}
 use Rattle.format.specs.Answer.{Answer}
 use Rattle.format.specs.Written.{Written}
 use Rattle.lwo.specs.declared.LwoAnswer.{LwoAnswer}
@@ -15,3 +16,7 @@ answerAs a = record {
 
 abbrev pub writtenAs : LwoWritten → Written
 writtenAs w = record { number = w .number; place = w .place; length = w .length }
+
+-- three numbers in one
+abbrev pub version : (major minor patch : ℕ) → ℕ
+version major minor patch = major * 65536 + minor * 256 + patch

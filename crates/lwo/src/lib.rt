@@ -1,9 +1,10 @@
 // The static library for C and Rust: thin functions over the proved reader and writer. A slice is a pointer and a length in elements. Neither function has
 // a precondition, so that nothing a caller lends can break what is proved.
+ghost use mathlib.Core.Path.{_≡_};
 ghost use Rattle.format.specs.Mesh.{lent};
 ghost use Rattle.format.specs.Answer.{Reads};
 ghost use Rattle.format.specs.Written.{Writes};
-ghost use Rattle.lwo.specs.Exports.{answerAs, writtenAs};
+ghost use Rattle.lwo.specs.Exports.{answerAs, writtenAs, version};
 use reader::read;
 use writer::write;
 
@@ -27,6 +28,14 @@ pub struct LwoWritten {
     pub number: u64,
     pub place: u64,
     pub length: u64,
+}
+
+// The library's version: 65,536 times the first of its three numbers, 256 times the second, and the third. The header has the same.
+#[no_mangle]
+pub extern "C" fn lwo_version() -> u32
+    ensures { λ r. ⌜ r ≡ version 0 1 0 ⌝ }
+{
+    256
 }
 
 #[no_mangle]

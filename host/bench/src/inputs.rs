@@ -1,6 +1,7 @@
 //! The files that are read and the meshes that are written.
 
 use cases::assemble::{chunk, form, join, string, u2, Kind};
+use lwo::{POLYGON_WORDS, RECORD_WORDS};
 use second::Tables;
 
 /// A file, and the mesh that it holds.
@@ -74,13 +75,16 @@ fn grid(side: usize) -> Tables {
     });
     let faces = (side - 1) * (side - 1);
     let level = 0.5f32.to_bits();
+    // A face of four vertices with the first surface, and a surface that is defined.
+    let polygon: [u32; POLYGON_WORDS] = [1, 4, 1];
+    let record: [u32; RECORD_WORDS] = [1, level, level, level, level, 0, 0, 0, 0, 1];
     Tables {
         points: points.collect(),
-        polygons: [1, 4, 1].repeat(faces),
+        polygons: polygon.repeat(faces),
         vertices: corners(side).collect(),
         names: vec![3],
         name_bytes: b"Oak".to_vec(),
-        records: vec![1, level, level, level, level, 0, 0, 0, 0, 1],
+        records: record.to_vec(),
     }
 }
 

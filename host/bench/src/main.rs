@@ -1,5 +1,5 @@
 //! The program: measures the proved library in one run, as ratios.
-#![deny(unsafe_code)]
+#![forbid(unsafe_code)]
 
 mod inputs;
 mod library;

@@ -69,18 +69,6 @@ impl<T: Element> Guarded<T> {
         &mut self.buffer[..GUARD]
     }
 
-    /// Where the lent elements begin. The pointer is made from the whole
-    /// buffer, so that a write outside the lent part changes a guard, and is
-    /// seen, instead of being undefined.
-    pub fn pointer(&self) -> *const T {
-        self.buffer.as_ptr().wrapping_add(GUARD)
-    }
-
-    /// The same, to be written through.
-    pub fn pointer_mut(&mut self) -> *mut T {
-        self.buffer.as_mut_ptr().wrapping_add(GUARD)
-    }
-
     /// Which guard was changed, in words, if one was.
     pub fn changed_guard(&self) -> Option<String> {
         let end = GUARD + self.length();

@@ -1,6 +1,6 @@
-//! The library that is compared, and the proved one behind its C interface.
+//! The library that is compared, and the proved one by the crate's two calls.
 
-use lwo::ffi::{lwo_read, lwo_write, LwoAnswer, LwoWritten};
+use lwo::lent::{self, LwoAnswer, LwoWritten};
 use second::{Answer, Written};
 
 use crate::guarded::Guarded;
@@ -20,55 +20,28 @@ pub trait Library {
 pub struct Proved;
 
 impl Library for Proved {
-    #[allow(unsafe_code)]
     fn read(&self, file: &Guarded<u8>, tables: &mut Lent) -> Answer {
-        // SAFETY: each pointer and length are those of the lent part of a live
-        // buffer, and no two buffers overlap: the seven are separate vectors,
-        // and the six that are written are borrowed mutably.
-        let answer = unsafe {
-            lwo_read(
-                file.pointer(),
-                file.length(),
-                tables.points.pointer_mut(),
-                tables.points.length(),
-                tables.polygons.pointer_mut(),
-                tables.polygons.length(),
-                tables.vertices.pointer_mut(),
-                tables.vertices.length(),
-                tables.names.pointer_mut(),
-                tables.names.length(),
-                tables.name_bytes.pointer_mut(),
-                tables.name_bytes.length(),
-                tables.records.pointer_mut(),
-                tables.records.length(),
-            )
-        };
-        answer_of(answer)
+        answer_of(lent::read(
+            file.content(),
+            tables.points.content_mut(),
+            tables.polygons.content_mut(),
+            tables.vertices.content_mut(),
+            tables.names.content_mut(),
+            tables.name_bytes.content_mut(),
+            tables.records.content_mut(),
+        ))
     }
 
-    #[allow(unsafe_code)]
     fn write(&self, tables: &Lent, out: &mut Guarded<u8>) -> Written {
-        // SAFETY: as above; only the output is written, and it is borrowed
-        // mutably.
-        let written = unsafe {
-            lwo_write(
-                tables.points.pointer(),
-                tables.points.length(),
-                tables.polygons.pointer(),
-                tables.polygons.length(),
-                tables.vertices.pointer(),
-                tables.vertices.length(),
-                tables.names.pointer(),
-                tables.names.length(),
-                tables.name_bytes.pointer(),
-                tables.name_bytes.length(),
-                tables.records.pointer(),
-                tables.records.length(),
-                out.pointer_mut(),
-                out.length(),
-            )
-        };
-        written_of(written)
+        written_of(lent::write(
+            tables.points.content(),
+            tables.polygons.content(),
+            tables.vertices.content(),
+            tables.names.content(),
+            tables.name_bytes.content(),
+            tables.records.content(),
+            out.content_mut(),
+        ))
     }
 }
 

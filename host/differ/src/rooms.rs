@@ -1,6 +1,7 @@
 //! The lengths of the tables that are lent, and what lies in them before.
 
 use cases::random::Random;
+use lwo::{POINT_WORDS, POLYGON_WORDS, RECORD_WORDS};
 use second::{Answer, Tables};
 
 /// The lengths of the six tables, in words (name bytes in bytes).
@@ -17,7 +18,7 @@ pub const TABLES: [&str; 6] = [
 ];
 
 /// The words of an entry of each table.
-const ENTRY_WORDS: Lengths = [3, 3, 1, 1, 1, 10];
+const ENTRY_WORDS: Lengths = [POINT_WORDS, POLYGON_WORDS, 1, 1, 1, RECORD_WORDS];
 
 /// Longer files are read with fewer rooms, because each reading takes long.
 const LONG_FILE: usize = 200_000;
@@ -126,7 +127,8 @@ mod tests {
 
     #[test]
     fn exact_lengths_are_whole_entries() {
-        assert_eq!(exact(&needs()), [6, 3, 3, 2, 5, 20]);
+        let words = [2 * POINT_WORDS, POLYGON_WORDS, 3, 2, 5, 2 * RECORD_WORDS];
+        assert_eq!(exact(&needs()), words);
     }
 
     /// Every table comes a word short, an entry short, empty, with part of an

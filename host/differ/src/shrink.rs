@@ -4,6 +4,7 @@ use std::time::{Duration, Instant};
 
 use cases::assemble::{chunk, Tag};
 use cases::insert::correct_form_length;
+use lwo::{POINT_WORDS, POLYGON_WORDS, RECORD_WORDS};
 use second::Tables;
 
 use crate::damage::chunk_spans;
@@ -122,10 +123,11 @@ fn without(file: &[u8], start: usize, end: usize) -> Vec<u8> {
 /// Each polygon with its vertices, as the table counts them.
 fn without_a_polygon(tables: &Tables) -> Box<dyn Iterator<Item = Tables> + '_> {
     let mut first = 0;
-    let entries = tables.polygons.chunks_exact(3).enumerate();
+    let entries = tables.polygons.chunks_exact(POLYGON_WORDS).enumerate();
     Box::new(entries.map(move |(number, entry)| {
         let mut smaller = tables.clone();
-        smaller.polygons.drain(3 * number..3 * number + 3);
+        let start = POLYGON_WORDS * number;
+        smaller.polygons.drain(start..start + POLYGON_WORDS);
         let all = tables.vertices.len();
         let start = all.min(first);
         first = first.saturating_add(entry[1] as usize);
@@ -142,7 +144,7 @@ fn without_last_name(tables: &Tables) -> Box<dyn Iterator<Item = Tables> + '_> {
         let mut smaller = tables.clone();
         cut(&mut smaller.names, 1);
         cut(&mut smaller.name_bytes, length as usize);
-        cut(&mut smaller.records, 10);
+        cut(&mut smaller.records, RECORD_WORDS);
         smaller
     }))
 }
@@ -150,7 +152,7 @@ fn without_last_name(tables: &Tables) -> Box<dyn Iterator<Item = Tables> + '_> {
 /// The last point, or the last word or byte of one table.
 fn without_last_entry(tables: &Tables) -> Box<dyn Iterator<Item = Tables> + '_> {
     let shorten: [fn(&mut Tables); 7] = [
-        |tables| cut(&mut tables.points, 3),
+        |tables| cut(&mut tables.points, POINT_WORDS),
         |tables| cut(&mut tables.points, 1),
         |tables| cut(&mut tables.polygons, 1),
         |tables| cut(&mut tables.vertices, 1),
@@ -210,7 +212,7 @@ mod tests {
             vertices: vec![0, 1, 3],
             names: vec![2],
             name_bytes: b"ab".to_vec(),
-            records: vec![0; 10],
+            records: vec![0; RECORD_WORDS],
         };
         let small = mesh(whole, |tables| tables.vertices.contains(&3));
         assert_eq!(small.vertices.last(), Some(&3));

@@ -8,6 +8,11 @@ use differ::library::Library;
 use differ::{check, files, meshes};
 use second::{Answer, Tables, Written};
 
+/// The words of an entry, to be multiplied by a count.
+const POINT_WORDS: u64 = lwo::POINT_WORDS as u64;
+const POLYGON_WORDS: u64 = lwo::POLYGON_WORDS as u64;
+const RECORD_WORDS: u64 = lwo::RECORD_WORDS as u64;
+
 /// What goes wrong after the second program has answered.
 type WrongRead = fn(&mut Lent, &mut Answer);
 type WrongWrite = fn(&mut Guarded<u8>, &mut Written);
@@ -139,7 +144,13 @@ fn a_wrong_word_in_a_table() {
         "vertices: element",
     );
     must_find_reader(
-        |lent, answer| change(answer, lent.polygons.content_mut(), answer.polygons * 3),
+        |lent, answer| {
+            change(
+                answer,
+                lent.polygons.content_mut(),
+                POLYGON_WORDS * answer.polygons,
+            )
+        },
         "polygons: element",
     );
     must_find_reader(
@@ -147,7 +158,13 @@ fn a_wrong_word_in_a_table() {
         "names: element",
     );
     must_find_reader(
-        |lent, answer| change(answer, lent.records.content_mut(), answer.names * 10),
+        |lent, answer| {
+            change(
+                answer,
+                lent.records.content_mut(),
+                RECORD_WORDS * answer.names,
+            )
+        },
         "records: element",
     );
     must_find_reader(change_name_byte, "name bytes: element");
@@ -161,7 +178,11 @@ fn change(answer: &Answer, table: &mut [u32], words: u64) {
 }
 
 fn change_point(lent: &mut Lent, answer: &mut Answer) {
-    change(answer, lent.points.content_mut(), answer.points * 3);
+    change(
+        answer,
+        lent.points.content_mut(),
+        POINT_WORDS * answer.points,
+    );
 }
 
 fn change_name_byte(lent: &mut Lent, answer: &mut Answer) {
@@ -188,7 +209,7 @@ fn a_word_behind_the_mesh() {
     must_find_reader(
         |lent, answer| {
             let words = lent.records.length();
-            if answer.number == 0 && words % 10 != 0 {
+            if answer.number == 0 && !(words as u64).is_multiple_of(RECORD_WORDS) {
                 lent.records.content_mut()[words - 1] = 0;
             }
         },
@@ -243,8 +264,8 @@ fn a_wrong_look_at_the_room() {
     must_find_reader(
         |lent, answer| {
             let others = lent.names.length() as u64 >= answer.names
-                && lent.points.length() as u64 >= answer.points * 3
-                && lent.polygons.length() as u64 >= answer.polygons * 3
+                && lent.points.length() as u64 >= POINT_WORDS * answer.points
+                && lent.polygons.length() as u64 >= POLYGON_WORDS * answer.polygons
                 && lent.vertices.length() as u64 >= answer.vertices
                 && lent.name_bytes.length() as u64 >= answer.name_bytes;
             if answer.number == 16 && others {
@@ -255,7 +276,7 @@ fn a_wrong_look_at_the_room() {
     );
     must_find_reader(
         |lent, answer| {
-            if answer.number == 0 && lent.points.length() % 3 == 1 {
+            if answer.number == 0 && lent.points.length() as u64 % POINT_WORDS == 1 {
                 answer.number = 16;
             }
         },

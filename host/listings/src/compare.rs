@@ -103,8 +103,8 @@ mod tests {
             let text = listing(file).replace("polygon 0 ", "polygon 1 ");
             Ok(text.into_bytes())
         };
-        let wrong: [&dyn Fn(&[u8]) -> io::Result<Vec<u8>>; 4] =
-            [&refuses_all, &reads_all, &no_last_line_end, &counts_from_1];
+        type Program<'a> = &'a dyn Fn(&[u8]) -> io::Result<Vec<u8>>;
+        let wrong: [Program; 4] = [&refuses_all, &reads_all, &no_last_line_end, &counts_from_1];
         for run in wrong {
             let result = compare(run, fixed()).expect("it runs");
             assert!(result.is_err());

@@ -1,7 +1,8 @@
 //! How much of everything a file holds.
 
 use crate::ffi::LwoAnswer;
-use crate::refusal::{Refusal, ACCEPTED, NO_ROOM};
+use crate::refusal::Refusal;
+use crate::refusal_kind::RefusalKind;
 use crate::tables::Tables;
 
 /// What a file that the rules accept holds: the five counts of its mesh, and two of the file.
@@ -34,11 +35,11 @@ impl Counts {
     /// ```
     pub fn of(file: &[u8]) -> Result<Counts, Refusal> {
         let answer = Tables::default().read(file);
-        match answer.number {
+        match Refusal::answered(answer.number, answer.place) {
             // Empty tables have room for nothing, so NO ROOM is said of every file with a mesh
-            // that is not empty; the needs are full on both.
-            ACCEPTED | NO_ROOM => Ok(Counts::from(answer)),
-            _ => Err(Refusal::new(answer.number, answer.place)),
+            // that is not empty; the needs are full then too.
+            Some(refusal) if refusal.kind != RefusalKind::NoRoom => Err(refusal),
+            _ => Ok(Counts::from(answer)),
         }
     }
 }

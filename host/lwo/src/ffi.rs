@@ -1,26 +1,38 @@
 //! The proved library as C sees it: `host/include/lwo.h` says the same. Every slice is a pointer and a length in elements.
 
-/// The reader's answer: a number of the table of refusals (0 accepted), the place, the five needs, the skipped chunks and the details.
+/// The reader's answer.
 #[repr(C)]
 #[derive(Clone, Copy, Debug, PartialEq, Eq)]
 pub struct LwoAnswer {
+    /// The number in the table of refusals, 0 if the file is accepted.
     pub number: u64,
+    /// The place of the fault, 0 if there is none or it is the whole file's.
     pub place: u64,
+    /// The five needs, full on 0 and 16 and 0 else: points,
     pub points: u64,
+    /// polygons,
     pub polygons: u64,
+    /// vertices, summed over the polygons,
     pub vertices: u64,
+    /// names, each with a surface record,
     pub names: u64,
+    /// and bytes, summed over the names.
     pub name_bytes: u64,
+    /// Top-level chunks that are not listed; full and 0 as the needs are.
     pub skipped: u64,
+    /// Detail polygons, which are checked and not kept; full and 0 as the needs are.
     pub details: u64,
 }
 
-/// The writer's answer: a number, the place 0, and a length: bytes written on 0, bytes needed on 16, else 0.
+/// The writer's answer.
 #[repr(C)]
 #[derive(Clone, Copy, Debug, PartialEq, Eq)]
 pub struct LwoWritten {
+    /// The number in the table of refusals, 0 if the mesh is written.
     pub number: u64,
+    /// The place, 0.
     pub place: u64,
+    /// Bytes written on 0, bytes needed on 16, else 0.
     pub length: u64,
 }
 

@@ -4,7 +4,8 @@
 //! [`POLYGON_WORDS`](crate::POLYGON_WORDS) or [`RECORD_WORDS`](crate::RECORD_WORDS) long, as
 //! [`Tables`](crate::Tables) tells. The functions have no condition on what they are lent.
 
-use crate::ffi::{lwo_read, lwo_write, LwoAnswer, LwoWritten};
+use crate::ffi::{lwo_read, lwo_write};
+pub use crate::ffi::{LwoAnswer, LwoWritten};
 
 /// Reads a file into lent tables.
 ///

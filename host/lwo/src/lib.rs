@@ -16,11 +16,11 @@
 //! let corners: Vec<[f32; 3]> = mesh.points().collect();
 //! assert_eq!(corners, [[0.0, 0.0, 0.0], [1.0, 0.0, 0.0], [0.0, 2.0, 0.0]]);
 //!
-//! let names: Vec<lwo::Name> = mesh.names().collect();
 //! for polygon in mesh.polygons() {
 //!     assert_eq!(polygon.kind, lwo::Kind::Face);
 //!     assert_eq!(polygon.vertices, [0, 1, 2]);
-//!     assert_eq!(polygon.name_index().map(|index| names[index].as_bytes()), Some(&b"Oak"[..]));
+//!     let surface = mesh.surface_of(&polygon).expect("it has one");
+//!     assert_eq!(surface.name, lwo::Name::from("Oak"));
 //! }
 //!
 //! // The canonical file of the mesh is read back as the same mesh, to the bit.
@@ -32,35 +32,45 @@
 //!
 //! ```
 //! let refusal = lwo::Mesh::read(b"FORM\0\0\0\x05LWO2").unwrap_err();
-//! assert_eq!((refusal.number, refusal.place), (3, 0));
+//! assert_eq!((refusal.number(), refusal.place), (3, 0));
+//! assert_eq!(refusal.kind, lwo::RefusalKind::FormLength);
 //! assert!(refusal.to_string().starts_with("refused 3 at 0: the length"));
 //! ```
 //!
+//! [`Mesh::open`] reads a file by its name, and [`MeshBuilder`] makes a mesh from plain data.
 //! [`Counts`] tells what a file holds without keeping it, [`Reading`] gives a mesh together with
 //! those counts, and [`lent`] has the library's own two functions, for a caller that lends
 //! tables of its own.
 #![deny(unsafe_code)]
 #![warn(missing_docs)]
 
+mod builder;
 mod counts;
-#[allow(missing_docs)]
-pub mod ffi;
+mod escaped;
+mod ffi;
 #[allow(unsafe_code)]
 pub mod lent;
 mod mesh;
 mod name;
 mod polygon;
+mod read_error;
 mod reading;
 mod refusal;
+mod refusal_kind;
+mod starts;
 mod surface;
 mod tables;
 
+pub use builder::{MeshBuilder, NO_SURFACE};
 pub use counts::Counts;
+pub use escaped::Escaped;
 pub use mesh::Mesh;
 pub use name::{Name, Names};
 pub use polygon::{Kind, Polygon, Polygons};
+pub use read_error::ReadError;
 pub use reading::Reading;
 pub use refusal::Refusal;
+pub use refusal_kind::RefusalKind;
 pub use surface::{Sides, Surface};
 pub use tables::{Tables, POINT_WORDS, POLYGON_WORDS, RECORD_WORDS};
 

@@ -1,6 +1,6 @@
 //! The command `lwo`: tells what LightWave object files hold, checks them, and writes them as
 //! canonical LWO2 files.
-#![forbid(unsafe_code)]
+#![deny(unsafe_code)]
 
 mod command;
 

@@ -1,11 +1,18 @@
 //! The mesh.
 
-use crate::name::Names;
-use crate::polygon::Polygons;
+use std::io::Read;
+use std::path::Path;
+
+use crate::name::{Name, Names};
+use crate::polygon::{vertex_count, Polygon, Polygons};
+use crate::read_error::ReadError;
 use crate::reading::Reading;
-use crate::refusal::{Refusal, ACCEPTED, NOT_A_MESH, NO_ROOM};
+use crate::refusal::Refusal;
+use crate::refusal_kind::RefusalKind;
+use crate::starts::Starts;
 use crate::surface::Surface;
 use crate::tables::{size, Tables, POINT_WORDS, POLYGON_WORDS, RECORD_WORDS};
+use crate::FILE_LIMIT;
 
 /// Points, polygons with their vertices, names, and a surface record for each name.
 ///
@@ -15,6 +22,9 @@ use crate::tables::{size, Tables, POINT_WORDS, POLYGON_WORDS, RECORD_WORDS};
 #[derive(Clone, Debug, Default, PartialEq, Eq, Hash)]
 pub struct Mesh {
     tables: Tables,
+    /// Where the vertices of each polygon and the bytes of each name begin.
+    vertex_starts: Starts,
+    byte_starts: Starts,
 }
 
 impl Mesh {
@@ -29,7 +39,31 @@ impl Mesh {
         Reading::of(file).map(|reading| reading.mesh)
     }
 
-    /// Takes tables as a mesh, or refuses them (17) if they are none.
+    /// Opens the file of this name and reads its mesh.
+    ///
+    /// ```no_run
+    /// let mesh = lwo::Mesh::open("panel.lwo")?;
+    /// # Ok::<(), lwo::ReadError>(())
+    /// ```
+    pub fn open(path: impl AsRef<Path>) -> Result<Mesh, ReadError> {
+        Reading::open(path).map(|reading| reading.mesh)
+    }
+
+    /// Reads the mesh of a file from a stream.
+    ///
+    /// ```
+    /// let mesh = lwo::Mesh::from_reader(&b"FORM\0\0\0\x04LWO2"[..])?;
+    /// assert_eq!(mesh, lwo::Mesh::default());
+    /// # Ok::<(), lwo::ReadError>(())
+    /// ```
+    pub fn from_reader(reader: impl Read) -> Result<Mesh, ReadError> {
+        Reading::from_reader(reader).map(|reading| reading.mesh)
+    }
+
+    /// Takes tables as a mesh, or refuses them (17) if they are none. [`MeshBuilder`] makes one
+    /// from plain points, names and polygons.
+    ///
+    /// [`MeshBuilder`]: crate::MeshBuilder
     ///
     /// ```
     /// use lwo::{Mesh, Tables};
@@ -43,21 +77,26 @@ impl Mesh {
     /// assert!(Mesh::from_tables(tables.clone()).is_ok());
     ///
     /// tables.vertices[2] = 3; // there is no such point
-    /// assert_eq!(Mesh::from_tables(tables).unwrap_err().number, 17);
+    /// assert_eq!(Mesh::from_tables(tables).unwrap_err().number(), 17);
     /// ```
     pub fn from_tables(tables: Tables) -> Result<Mesh, Refusal> {
         // The writer judges the tables before it looks at the output, so an empty output is
         // enough to ask. A mesh whose file is too long (18) is a mesh.
         let written = tables.write(&mut []);
-        if written.number == NOT_A_MESH {
-            return Err(Refusal::new(written.number, written.place));
+        match Refusal::answered(written.number, written.place) {
+            Some(refusal) if refusal.kind == RefusalKind::NotAMesh => Err(refusal),
+            _ => Ok(Mesh::holding(tables)),
         }
-        Ok(Mesh { tables })
     }
 
-    /// The mesh that the reader put into these tables.
+    /// The mesh that these tables hold.
     pub(crate) fn holding(tables: Tables) -> Mesh {
-        Mesh { tables }
+        let (polygons, _) = tables.polygons.as_chunks();
+        Mesh {
+            vertex_starts: Starts::of(polygons.iter().map(vertex_count)),
+            byte_starts: Starts::of(tables.names.iter().map(|&length| length as usize)),
+            tables,
+        }
     }
 
     /// The canonical LWO2 file of the mesh. It is refused (18) where it would be longer than
@@ -68,20 +107,23 @@ impl Mesh {
     /// # Ok::<(), lwo::Refusal>(())
     /// ```
     pub fn to_lwo2(&self) -> Result<Vec<u8>, Refusal> {
-        let needed = self.tables.write(&mut []);
-        if needed.number != NO_ROOM {
-            return Err(Refusal::new(needed.number, needed.place));
-        }
-        let mut file = vec![0; size(needed.length)];
+        // The longest that the file can be is not much longer than it is, so one call is enough.
+        let mut file = vec![0; longest(&self.tables).min(FILE_LIMIT)];
         let written = self.tables.write(&mut file);
-        if written.number != ACCEPTED {
-            return Err(Refusal::new(written.number, written.place));
+        match Refusal::answered(written.number, written.place) {
+            Some(refusal) => Err(refusal),
+            None => {
+                file.truncate(size(written.length));
+                file.shrink_to_fit();
+                Ok(file)
+            }
         }
-        Ok(file)
     }
 
     /// The points in file order, as coordinates x, y and z.
-    pub fn points(&self) -> impl ExactSizeIterator<Item = [f32; 3]> + DoubleEndedIterator + '_ {
+    pub fn points(
+        &self,
+    ) -> impl ExactSizeIterator<Item = [f32; POINT_WORDS]> + DoubleEndedIterator + '_ {
         self.point_bits()
             .iter()
             .map(|bits| bits.map(f32::from_bits))
@@ -93,10 +135,26 @@ impl Mesh {
         points
     }
 
+    /// The point of this number, counted from 0.
+    pub fn point(&self, number: usize) -> Option<[f32; POINT_WORDS]> {
+        let bits = self.point_bits().get(number)?;
+        Some(bits.map(f32::from_bits))
+    }
+
     /// The polygons in file order, each with its vertices.
     pub fn polygons(&self) -> Polygons<'_> {
         let (entries, _) = self.tables.polygons.as_chunks::<POLYGON_WORDS>();
         Polygons::new(entries, &self.tables.vertices)
+    }
+
+    /// The polygon of this number, counted from 0.
+    pub fn polygon(&self, number: usize) -> Option<Polygon<'_>> {
+        let (entries, _) = self.tables.polygons.as_chunks::<POLYGON_WORDS>();
+        let vertices = self.vertex_starts.range(number)?;
+        Some(Polygon::new(
+            &entries[number],
+            &self.tables.vertices[vertices],
+        ))
     }
 
     /// The names in file order.
@@ -104,12 +162,29 @@ impl Mesh {
         Names::new(&self.tables.names, &self.tables.name_bytes)
     }
 
+    /// The name of this index, counted from 0, as [`Polygon::name_index`] has it.
+    pub fn name(&self, index: usize) -> Option<Name<'_>> {
+        let bytes = self.byte_starts.range(index)?;
+        Some(Name::from(&self.tables.name_bytes[bytes]))
+    }
+
     /// The surfaces, one for each name and in the same order.
     pub fn surfaces(&self) -> impl ExactSizeIterator<Item = Surface<'_>> {
         let (records, _) = self.tables.records.as_chunks::<RECORD_WORDS>();
         self.names()
             .zip(records)
-            .map(|(name, record)| Surface::new(name, record))
+            .map(|(name, record)| Surface::from_record(name, record))
+    }
+
+    /// The surface of this index, counted from 0, as [`Polygon::name_index`] has it.
+    pub fn surface(&self, index: usize) -> Option<Surface<'_>> {
+        let (records, _) = self.tables.records.as_chunks();
+        Some(Surface::from_record(self.name(index)?, records.get(index)?))
+    }
+
+    /// The surface of a polygon of this mesh, if it has one.
+    pub fn surface_of(&self, polygon: &Polygon) -> Option<Surface<'_>> {
+        self.surface(polygon.name_index()?)
     }
 
     /// The tables that hold the mesh.
@@ -121,4 +196,24 @@ impl Mesh {
     pub fn into_tables(self) -> Tables {
         self.tables
     }
+}
+
+/// A length that no canonical file of these tables is above: every polygon in chunks of its own
+/// and tagged, every index in four bytes, every name defined, every length odd.
+fn longest(tables: &Tables) -> usize {
+    const FORM: usize = 12;
+    const HEADER: usize = 8;
+    const INDEX: usize = 4;
+    const WORD: usize = 4;
+    // POLS: header, type, count; PTAG: header, type, polygon, tag.
+    const POLYGON: usize = (HEADER + 4 + 2) + (HEADER + 4 + INDEX + 2);
+    // The terminator and a pad, in TAGS; header, source, sub-chunks and the same, in SURF: less
+    // than this.
+    const NAME: usize = 128;
+    FORM + 2 * (HEADER + 1)
+        + tables.points.len() * WORD
+        + tables.polygons.len() / POLYGON_WORDS * POLYGON
+        + tables.vertices.len() * INDEX
+        + tables.names.len() * NAME
+        + tables.name_bytes.len() * 2
 }

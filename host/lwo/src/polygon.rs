@@ -32,8 +32,10 @@ impl Kind {
     }
 }
 
-/// A polygon of a mesh.
+/// A polygon of a mesh. It will be given more than this, so it cannot be taken apart or made by
+/// its fields alone.
 #[derive(Clone, Copy, Debug, PartialEq, Eq, Hash)]
+#[non_exhaustive]
 pub struct Polygon<'a> {
     /// Face or patch.
     pub kind: Kind,
@@ -43,19 +45,32 @@ pub struct Polygon<'a> {
     pub vertices: &'a [u32],
 }
 
-impl Polygon<'_> {
+impl<'a> Polygon<'a> {
+    /// The polygon of an entry of the table.
+    pub(crate) fn new(entry: &[u32; POLYGON_WORDS], vertices: &'a [u32]) -> Polygon<'a> {
+        let &[kind, _, surface] = entry;
+        Polygon {
+            kind: Kind::from_number(kind),
+            surface,
+            vertices,
+        }
+    }
+
     /// Which of the mesh's names and surfaces is the polygon's, counted from 0.
-    ///
-    /// ```
-    /// use lwo::{Kind, Polygon};
-    ///
-    /// let polygon = Polygon { kind: Kind::Face, surface: 1, vertices: &[0, 1, 2] };
-    /// assert_eq!(polygon.name_index(), Some(0));
-    /// assert_eq!(Polygon { surface: 0, ..polygon }.name_index(), None);
-    /// ```
     pub fn name_index(&self) -> Option<usize> {
         self.surface.checked_sub(1).map(|index| index as usize)
     }
+}
+
+/// How many vertices the polygon of an entry has.
+pub(crate) fn vertex_count(entry: &[u32; POLYGON_WORDS]) -> usize {
+    let &[_, count, _] = entry;
+    count as usize
+}
+
+/// The entry of a polygon.
+pub(crate) fn entry(kind: Kind, vertex_count: u32, surface: u32) -> [u32; POLYGON_WORDS] {
+    [kind.number(), vertex_count, surface]
 }
 
 /// The polygons of a mesh in file order: what [`Mesh::polygons`](crate::Mesh::polygons) gives.
@@ -79,14 +94,10 @@ impl<'a> Iterator for Polygons<'a> {
     type Item = Polygon<'a>;
 
     fn next(&mut self) -> Option<Polygon<'a>> {
-        let &[kind, count, surface] = self.entries.next()?;
-        let (vertices, rest) = self.vertices.split_at(count as usize);
+        let entry = self.entries.next()?;
+        let (vertices, rest) = self.vertices.split_at(vertex_count(entry));
         self.vertices = rest;
-        Some(Polygon {
-            kind: Kind::from_number(kind),
-            surface,
-            vertices,
-        })
+        Some(Polygon::new(entry, vertices))
     }
 
     fn size_hint(&self) -> (usize, Option<usize>) {

@@ -32,7 +32,13 @@ impl Sides {
 
 /// A name of a mesh and its surface record. The levels are 1.0 for 100 percent; other values,
 /// negative ones too, occur in files.
+///
+/// ```
+/// let mut oak = lwo::Surface::new("Oak");
+/// oak.colour = [0.6, 0.4, 0.2];
+/// ```
 #[derive(Clone, Copy, Debug, PartialEq)]
+#[non_exhaustive]
 pub struct Surface<'a> {
     /// The name.
     pub name: Name<'a>,
@@ -55,7 +61,31 @@ pub struct Surface<'a> {
 }
 
 impl<'a> Surface<'a> {
-    pub(crate) fn new(name: Name<'a>, record: &[u32; RECORD_WORDS]) -> Surface<'a> {
+    /// A defined surface of this name, with the values that a SURF without sub-chunks has in an
+    /// LWO2 file.
+    pub fn new(name: impl Into<Name<'a>>) -> Surface<'a> {
+        Surface {
+            name: name.into(),
+            defined: true,
+            colour: [0.5; 3],
+            diffuse: 1.0,
+            luminosity: 0.0,
+            specular: 0.0,
+            reflection: 0.0,
+            transparency: 0.0,
+            sides: Sides::Front,
+        }
+    }
+
+    /// A name with no SURF: it has the missing values.
+    pub fn undefined(name: impl Into<Name<'a>>) -> Surface<'a> {
+        Surface {
+            defined: false,
+            ..Surface::new(name)
+        }
+    }
+
+    pub(crate) fn from_record(name: Name<'a>, record: &[u32; RECORD_WORDS]) -> Surface<'a> {
         let &[defined, levels @ .., sides] = record;
         let [red, green, blue, diffuse, luminosity, specular, reflection, transparency] =
             levels.map(f32::from_bits);
@@ -70,5 +100,21 @@ impl<'a> Surface<'a> {
             transparency,
             sides: Sides::from_number(sides),
         }
+    }
+
+    pub(crate) fn record(&self) -> [u32; RECORD_WORDS] {
+        let [red, green, blue] = self.colour.map(f32::to_bits);
+        [
+            u32::from(self.defined),
+            red,
+            green,
+            blue,
+            self.diffuse.to_bits(),
+            self.luminosity.to_bits(),
+            self.specular.to_bits(),
+            self.reflection.to_bits(),
+            self.transparency.to_bits(),
+            self.sides.number(),
+        ]
     }
 }

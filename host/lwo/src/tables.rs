@@ -1,8 +1,8 @@
 //! The tables of a mesh, as the library reads and writes them.
 
 use crate::counts::Counts;
-use crate::ffi::{LwoAnswer, LwoWritten};
-use crate::lent;
+use crate::lent::{self, LwoAnswer, LwoWritten};
+use crate::FILE_LIMIT;
 
 /// Words of a point: x, y and z, each the bits of an `f32`.
 pub const POINT_WORDS: usize = 3;
@@ -34,6 +34,30 @@ pub struct Tables {
 }
 
 impl Tables {
+    /// Tables as long as a file of so many bytes mostly needs: as many points and vertices as it
+    /// can have, polygons of three vertices, and not very many names. Memory that is not used is
+    /// given back by [`cut`](Tables::cut).
+    pub(crate) fn expected(file_length: usize) -> Tables {
+        const TRIANGLE_BYTES: usize = 8;
+        const VERTEX_BYTES: usize = 2;
+        const NAMES: usize = 1_000;
+        // A longer file is refused whatever the tables are.
+        let bytes = if file_length > FILE_LIMIT {
+            0
+        } else {
+            file_length
+        };
+        let counts = Counts {
+            points: (bytes / (POINT_WORDS * size_of::<f32>())) as u64,
+            polygons: (bytes / TRIANGLE_BYTES) as u64,
+            vertices: (bytes / VERTEX_BYTES) as u64,
+            names: bytes.min(NAMES) as u64,
+            name_bytes: bytes.min(20 * NAMES) as u64,
+            ..Counts::default()
+        };
+        Tables::sized(&counts)
+    }
+
     /// Tables of just the size that a file needs, with every word 0.
     pub(crate) fn sized(counts: &Counts) -> Tables {
         Tables {
@@ -44,6 +68,16 @@ impl Tables {
             name_bytes: vec![0; size(counts.name_bytes)],
             records: vec![0; size(counts.names) * RECORD_WORDS],
         }
+    }
+
+    /// Cuts the tables to what a mesh of these counts has.
+    pub(crate) fn cut(&mut self, counts: &Counts) {
+        cut(&mut self.points, size(counts.points) * POINT_WORDS);
+        cut(&mut self.polygons, size(counts.polygons) * POLYGON_WORDS);
+        cut(&mut self.vertices, size(counts.vertices));
+        cut(&mut self.names, size(counts.names));
+        cut(&mut self.name_bytes, size(counts.name_bytes));
+        cut(&mut self.records, size(counts.names) * RECORD_WORDS);
     }
 
     pub(crate) fn read(&mut self, file: &[u8]) -> LwoAnswer {
@@ -69,6 +103,11 @@ impl Tables {
             out,
         )
     }
+}
+
+fn cut<T>(table: &mut Vec<T>, length: usize) {
+    table.truncate(length);
+    table.shrink_to_fit();
 }
 
 /// A count of the library as a size. An entry takes bytes of the file, so no count is above the

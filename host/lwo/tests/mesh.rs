@@ -1,13 +1,18 @@
 //! The crate's meshes against what is known of the samples, and against the second program.
 
 use std::fs;
+use std::io::ErrorKind;
 use std::path::Path;
 
+use cases::assemble::{chunk, form, join};
 use cases::files::files;
 use cases::meshes::{at_file_limit, damaged, mesh, rich_mesh};
 use cases::plain::PlainMesh;
 use cases::random::Random;
-use lwo::{Counts, Kind, Mesh, Reading, Refusal, Sides, Tables};
+use lwo::{
+    Counts, Kind, Mesh, MeshBuilder, ReadError, Reading, Refusal, RefusalKind, Sides, Surface,
+    Tables, NO_SURFACE, POLYGON_WORDS, RECORD_WORDS,
+};
 
 const FILES: usize = 900;
 
@@ -124,10 +129,8 @@ fn generated_files_are_answered_as_by_the_second_program() {
             }
             Err(why) => {
                 refused += 1;
-                let refusal = Refusal {
-                    number: why.number(),
-                    place: why.place(),
-                };
+                let kind = RefusalKind::from_number(why.number()).expect("a kind");
+                let refusal = Refusal::new(kind, why.place());
                 assert_eq!(Mesh::read(&file), Err(refusal), "{name}");
                 assert_eq!(Counts::of(&file), Err(refusal), "{name}");
             }
@@ -179,7 +182,7 @@ fn iterators_go_through_the_whole_mesh() {
         };
         for polygon in mesh.polygons() {
             let count = polygon.vertices.len() as u32;
-            let entry = [polygon.kind.number(), count, polygon.surface];
+            let entry: [u32; POLYGON_WORDS] = [polygon.kind.number(), count, polygon.surface];
             again.polygons.extend(entry);
             again.vertices.extend(polygon.vertices);
         }
@@ -193,7 +196,7 @@ fn iterators_go_through_the_whole_mesh() {
     }
 }
 
-fn record_of(surface: &lwo::Surface) -> [u32; 10] {
+fn record_of(surface: &Surface) -> [u32; RECORD_WORDS] {
     let [red, green, blue] = surface.colour.map(f32::to_bits);
     [
         u32::from(surface.defined),
@@ -215,12 +218,26 @@ fn tables_that_are_no_mesh_are_refused() {
     let whole = rich_mesh(&mut random);
     for one in damaged(&mut random, &whole) {
         let refusal = Mesh::from_tables(tables_of(one.mesh));
-        let wanted = Refusal {
-            number: 17,
-            place: 0,
-        };
+        let wanted = Refusal::new(RefusalKind::NotAMesh, 0);
         assert_eq!(refusal, Err(wanted), "{}", one.name);
     }
+}
+
+/// A mesh whose file is as long as one of its size can be: every polygon in chunks of its own and
+/// tagged, every index in four bytes.
+#[test]
+fn the_longest_file_of_a_size_is_written() {
+    let mut builder = MeshBuilder::new();
+    let last = (0..70_000).map(|_| builder.point([0.0; 3])).last();
+    let last = last.expect("a point");
+    let surface = builder.surface(&Surface::new("o"));
+    for _ in 0..200 {
+        builder.polygon(Kind::Face, surface, &[last]);
+        builder.polygon(Kind::Patch, surface, &[last]);
+    }
+    let mesh = builder.build().expect("a mesh");
+    let file = mesh.to_lwo2().expect("a file");
+    assert_eq!(file, second::canonical(&second_mesh(mesh.tables())));
 }
 
 /// A mesh whose canonical file is over the limit is a mesh, and cannot be written.
@@ -232,9 +249,138 @@ fn a_canonical_file_too_long_is_refused() {
     assert!(Mesh::read(&file).as_ref() == Ok(&longest));
 
     let longer = Mesh::from_tables(tables_of(at_file_limit(true))).expect("a mesh");
-    let refusal = Refusal {
-        number: 18,
-        place: 0,
-    };
+    let refusal = Refusal::new(RefusalKind::OutTooLong, 0);
     assert_eq!(longer.to_lwo2(), Err(refusal));
+}
+
+/// By its number each thing is the one that the iterators give in its turn, and no more.
+#[test]
+fn things_are_found_by_their_numbers() {
+    for seed in 0..100 {
+        let mesh = Mesh::from_tables(tables_of(mesh(&mut Random::new(seed)))).expect("a mesh");
+        fn all<T>(of: impl Fn(usize) -> Option<T>) -> Vec<T> {
+            (0..).map_while(of).collect()
+        }
+        assert_eq!(
+            all(|number| mesh.point(number)),
+            mesh.points().collect::<Vec<_>>()
+        );
+        assert_eq!(
+            all(|number| mesh.polygon(number)),
+            mesh.polygons().collect::<Vec<_>>()
+        );
+        assert_eq!(
+            all(|index| mesh.name(index)),
+            mesh.names().collect::<Vec<_>>()
+        );
+        assert_eq!(
+            all(|index| mesh.surface(index)),
+            mesh.surfaces().collect::<Vec<_>>()
+        );
+        for polygon in mesh.polygons() {
+            let surface = mesh.surface_of(&polygon);
+            let name = polygon.name_index().and_then(|index| mesh.name(index));
+            assert_eq!(surface.map(|surface| surface.name), name);
+            assert_eq!(surface.is_none(), polygon.surface == NO_SURFACE);
+        }
+        let past = [mesh.polygons().len(), usize::MAX];
+        assert!(past.iter().all(|&number| mesh.polygon(number).is_none()));
+    }
+}
+
+/// A mesh is made again of what its own methods give.
+#[test]
+fn a_mesh_is_built_of_plain_data() {
+    for seed in 0..100 {
+        let mesh = Mesh::from_tables(tables_of(mesh(&mut Random::new(seed)))).expect("a mesh");
+        let mut builder = MeshBuilder::new();
+        for (number, point) in (0..).zip(mesh.points()) {
+            assert_eq!(builder.point(point), number);
+        }
+        for (number, surface) in (1..).zip(mesh.surfaces()) {
+            let given = match surface.defined {
+                true => builder.surface(&surface),
+                false => builder.name(surface.name),
+            };
+            assert_eq!(given, number);
+        }
+        for polygon in mesh.polygons() {
+            builder.polygon(polygon.kind, polygon.surface, polygon.vertices);
+        }
+        assert_eq!(builder.build().as_ref(), Ok(&mesh), "seed {seed}");
+    }
+}
+
+#[test]
+fn what_is_no_mesh_is_not_built() {
+    let refused = Err(Refusal::new(RefusalKind::NotAMesh, 0));
+    let mut builder = MeshBuilder::new();
+    let point = builder.point([0.0; 3]);
+    for (kind, surface, vertices) in [
+        (Kind::Face, NO_SURFACE, &[point + 1][..]),
+        (Kind::Patch, NO_SURFACE, &[]),
+        (Kind::Face, 1, &[point]),
+    ] {
+        let mut wrong = builder.clone();
+        wrong.polygon(kind, surface, vertices);
+        assert_eq!(wrong.build(), refused);
+    }
+    for wrong_point in [f32::NAN, f32::INFINITY] {
+        let mut wrong = builder.clone();
+        wrong.point([0.0, wrong_point, 0.0]);
+        assert_eq!(wrong.build(), refused);
+    }
+    for names in [&["Oak", "Oak"][..], &["O\0k"], &[&"o".repeat(256)]] {
+        let mut wrong = builder.clone();
+        names
+            .iter()
+            .for_each(|name| assert_ne!(wrong.name(*name), NO_SURFACE));
+        assert_eq!(wrong.build(), refused);
+    }
+    assert!(builder.build().is_ok());
+}
+
+/// The values of a name without a SURF are those that the library gives it.
+#[test]
+fn the_missing_values_are_the_librarys() {
+    let mesh = Mesh::read(&sample("oak.lwo")).expect("it is accepted");
+    assert_eq!(mesh.surface(0), Some(Surface::undefined("Oak")));
+}
+
+#[test]
+fn a_file_is_opened_by_its_name_or_read_from_a_stream() {
+    let path = Path::new(env!("CARGO_MANIFEST_DIR")).join("../../samples/panel.lwo");
+    let mesh = Mesh::read(&sample("panel.lwo")).expect("it is accepted");
+    assert_eq!(Mesh::open(&path).expect("it is there"), mesh);
+    assert_eq!(
+        Mesh::from_reader(&sample("panel.lwo")[..]).expect("it is there"),
+        mesh
+    );
+    assert_eq!(Reading::open(&path).expect("it is there").counts.details, 1);
+
+    let refused = Mesh::from_reader(&sample("damaged.lwo")[..]).expect_err("it is damaged");
+    assert!(matches!(refused, ReadError::Refused(why) if why.number() == 9));
+    let endless = Mesh::from_reader(std::io::repeat(b'F')).expect_err("it has no end");
+    assert!(matches!(endless, ReadError::Refused(why) if why.kind == RefusalKind::FileTooLong));
+    let missing = Mesh::open("no/such/file").expect_err("it is not there");
+    assert!(matches!(missing, ReadError::Io(why) if why.kind() == ErrorKind::NotFound));
+}
+
+/// Files that need more than the tables that are tried first: polygons of one vertex, and very
+/// many names. Both are read as the second program reads them.
+#[test]
+fn files_that_need_longer_tables_are_read() {
+    let polygons = [&b"FACE"[..], &[0, 1, 0, 0].repeat(5_000)].concat();
+    let names: Vec<u8> = (0..4_000u16)
+        .flat_map(|number| format!("{number:03x}\0").into_bytes())
+        .collect();
+    for chunks in [
+        [chunk(b"PNTS", &[0; 12]), chunk(b"POLS", &polygons)],
+        [chunk(b"TAGS", &names), chunk(b"NOTE", b"")],
+    ] {
+        let file = form(cases::assemble::Kind::Lwo2, &join(&chunks));
+        let (mesh, ..) = second::rules(&file).expect("the second program accepts it");
+        let reading = Reading::of(&file).expect("it is accepted");
+        assert_eq!(*reading.mesh.tables(), second_tables(&mesh));
+    }
 }

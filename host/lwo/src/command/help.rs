@@ -7,34 +7,58 @@ use super::Outcome;
 const HELP: &str = "\
 lwo reads LightWave object files of the kinds LWOB and LWO2.
 
-  lwo list FILE...       print what each file holds: its counts and polygons
   lwo check FILE...      tell on one line for each file whether it is accepted,
-                         and if not, what is wrong with it
+                         and if not, what is wrong with it; -v tells also which
+                         chunks were skipped
+  lwo boards FILE...     print for each surface name its faces, patches and
+                         vertices, the size of the panel in millimetres and the
+                         colour; and the counts of all files together
+  lwo list FILE...       print what each file holds: its counts and polygons
   lwo canonical IN OUT   read IN and write what it holds to OUT, as an LWO2 file
                          in the one canonical form
   lwo --help             print this
   lwo --version          print the version
 
 In the place of a file's name, - is standard input, or standard output for OUT.
-Put -- before names that begin with a minus sign.
+Put -- before names that begin with a minus sign. Where check or boards is given
+a folder, it reads the .lwo files in it and in the folders in it, but for hidden
+ones and links to folders.
 
-A refused file is told as 'refused 9 at 120': the number of what is wrong, and
-where the chunk at fault begins, in bytes from the start of the file. check and
-canonical add what the number means. A file may have up to 16,777,216 bytes; a
-longer one is refused with 1.
+A refused file is told as 'refused 9 at 68 (POLS)': the number of what is wrong,
+where the chunk at fault begins, in bytes from the start of the file, and the
+chunk's tag. What the number means comes after it. A file may have up to
+16,777,216 bytes; a longer one is refused with 1. list prints the number and the
+place alone.
 
-canonical never changes IN: where OUT is the same file, by whatever name or
-link, nothing is written. OUT stays as it was unless the whole new file is
-written. Curves, vertex maps, clips, envelopes, textures and layers are not
-read, so they are not in OUT.
+With --json, check, boards and list print one JSON object a line: one for each
+file, and for boards of several files a last one with the total.
+
+What is written:
+  OUT is written whole or not at all. Where something is there already, nothing
+  is written, unless -f or --force is given; even then never over IN, by
+  whatever name or link, over a read-only file, a folder, a device or a pipe, or
+  through a link to nothing. Nor is OUT written to a terminal without --force.
+  With --force a new file takes the old one's name. It has the old one's
+  permissions, and its owner and group where you may give them; other names of
+  the old file (hard links) keep the old file. Where OUT is a link, the file
+  that it leads to is replaced.
+  While it is written it is called .lwo-NUMBER-NUMBER.tmp, in OUT's folder. A
+  command that is interrupted takes that file away; one that is killed leaves
+  it, and it may be removed.
+  Curves, vertex maps, clips, envelopes, textures, smoothing angles and layers
+  are not read, so they are not in OUT.
+
+In names of files and surfaces, what cannot be seen is written as in \\n,
+\\u{202e} or \\xe4, and a backslash is doubled.
 
 Examples:
   lwo check *.lwo
-  lwo list panel.lwo
+  lwo boards orders/november
   lwo canonical panel.lwo panel-canonical.lwo
 
 Exit status: 0 if all went well; 1 if a file was refused, or could not be read
-or written; 2 if the command was not understood.
+or written; 2 if the command was not understood; 141 if whatever reads standard
+output has closed it.
 ";
 
 pub fn print_help(out: &mut impl Write) -> io::Result<Outcome> {

@@ -4,37 +4,58 @@ use std::io::{self, Write};
 
 use lwo::{Counts, Polygon, Reading};
 
+use super::folders::without_folders;
 use super::input::Source;
-use super::many::{each, Rejection};
-use super::output::Standard;
+use super::json::{self, array};
+use super::many::each;
+use super::rejection::Rejection;
+use super::standard::Standard;
 use super::{tell, Outcome};
 
 /// Prints the listings, each under the name of its file where there are several.
-pub fn list(sources: &[Source], out: &mut Standard) -> io::Result<Outcome> {
+pub fn list(sources: Vec<Source>, json: bool, out: &mut Standard) -> io::Result<Outcome> {
     let several = sources.len() > 1;
-    each(sources, out, Reading::of, |source, judged, out| {
-        let heading = if several {
-            format!("{source}:\n")
-        } else {
-            String::new()
-        };
-        match judged {
-            Ok(reading) => {
-                write!(out, "{heading}")?;
-                print_accepted(reading, out)
+    each(
+        without_folders(sources),
+        out,
+        Reading::of,
+        |source, judged, out| match judged {
+            Ok(reading) if json => print_json(source, reading, out),
+            Err(why) if json => writeln!(out, "{}", json::rejected(source, why)),
+            _ => {
+                let heading = if several {
+                    format!("{source}:\n")
+                } else {
+                    String::new()
+                };
+                print_listing(source, &heading, judged, out)
             }
-            Err(Rejection::Refused(refusal)) => {
-                let (number, place) = (refusal.number, refusal.place);
-                writeln!(out, "{heading}refused {number} at {place}")
-            }
-            Err(rejection) => {
-                // It has no listing. What is told of it comes after what was printed before.
-                out.flush()?;
-                tell(&format!("{source}: {rejection}"));
-                Ok(())
-            }
+        },
+    )
+}
+
+fn print_listing(
+    source: &Source,
+    heading: &str,
+    judged: &Result<Reading, Rejection>,
+    out: &mut Standard,
+) -> io::Result<()> {
+    match judged {
+        Ok(reading) => {
+            write!(out, "{heading}")?;
+            print_accepted(reading, out)
         }
-    })
+        Err(Rejection::Refused { refusal, .. }) => {
+            let (number, place) = (refusal.number(), refusal.place);
+            writeln!(out, "{heading}refused {number} at {place}")
+        }
+        Err(rejection) => {
+            // It has no listing. What is told of it comes after what was printed before.
+            out.flush()?;
+            tell(&format!("{source}: {rejection}"));
+            Ok(())
+        }
+    }
 }
 
 fn print_accepted(reading: &Reading, out: &mut impl Write) -> io::Result<()> {
@@ -66,4 +87,19 @@ fn print_polygon(number: usize, polygon: &Polygon, out: &mut impl Write) -> io::
         write!(out, " {vertex}")?;
     }
     writeln!(out)
+}
+
+fn print_json(source: &Source, reading: &Reading, out: &mut impl Write) -> io::Result<()> {
+    let polygons = reading.mesh.polygons().map(|polygon| {
+        json::Object::new()
+            .with("kind", polygon.kind.number())
+            .with("surface", polygon.surface)
+            .with(
+                "vertices",
+                array(polygon.vertices.iter().map(u32::to_string)),
+            )
+            .finish()
+    });
+    let object = json::accepted(source, &reading.counts).with("polygon_list", array(polygons));
+    writeln!(out, "{}", object.finish())
 }

@@ -1,22 +1,35 @@
 //! What the command does with its words, and how it ends.
 
 mod arguments;
+mod boards;
 mod canonical;
 mod check;
+mod chunks;
+mod convert;
+mod destination;
+mod folders;
 mod help;
 mod identity;
 mod input;
+mod json;
 mod list;
 mod many;
-mod output;
+mod pipe;
 mod progress;
 mod reason;
-mod replace;
-mod shown;
+mod rejection;
+mod standard;
+#[allow(unsafe_code)]
+mod system;
+mod temporary;
+mod whole;
 
-use std::ffi::OsString;
+use std::ffi::{OsStr, OsString};
 use std::io::{self, Write};
+use std::os::unix::ffi::OsStrExt;
 use std::process::ExitCode;
+
+use lwo::Escaped;
 
 use arguments::Order;
 use reason::Reason;
@@ -41,7 +54,7 @@ enum Outcome {
 /// Carries out what the words after the command's name ask for.
 pub fn run(words: impl Iterator<Item = OsString>) -> ExitCode {
     match arguments::order(words) {
-        Ok(order) => status(carry_out(&order)),
+        Ok(order) => status(carry_out(order)),
         Err(misuse) => {
             tell(&format!("{misuse}; lwo --help tells how it is used"));
             ExitCode::from(NOT_UNDERSTOOD)
@@ -50,14 +63,15 @@ pub fn run(words: impl Iterator<Item = OsString>) -> ExitCode {
 }
 
 /// The one error that can come back is that of standard output.
-fn carry_out(order: &Order) -> io::Result<Outcome> {
-    let mut out = output::standard();
+fn carry_out(order: Order) -> io::Result<Outcome> {
+    let mut out = standard::standard()?;
     let outcome = match order {
         Order::Help => help::print_help(&mut out)?,
         Order::Version => help::print_version(&mut out)?,
-        Order::List(sources) => list::list(sources, &mut out)?,
-        Order::Check(sources) => check::check(sources, &mut out)?,
-        Order::Canonical { from, to } => canonical::canonical(from, to, &mut out)?,
+        Order::List { sources, json } => list::list(sources, json, &mut out)?,
+        Order::Check { sources, form } => check::check(sources, form, &mut out)?,
+        Order::Boards { sources, json } => boards::boards(sources, json, &mut out)?,
+        Order::Canonical { from, target } => canonical::canonical(&from, &target, &mut out)?,
     };
     out.flush()?;
     Ok(outcome)
@@ -75,8 +89,14 @@ fn status(done: io::Result<Outcome>) -> ExitCode {
     }
 }
 
+/// A word or a file's name as it is shown to a person.
+fn shown<N: AsRef<OsStr> + ?Sized>(name: &N) -> Escaped<'_> {
+    Escaped(name.as_ref().as_bytes())
+}
+
 /// Tells a person something on standard error. Where that cannot be written either, there is
 /// nobody left to tell; the exit status still says it.
 fn tell(message: &str) {
-    let _ = writeln!(io::stderr(), "lwo: {message}");
+    // One write, so that the lines of several commands do not mix.
+    let _ = io::stderr().write_all(format!("lwo: {message}\n").as_bytes());
 }

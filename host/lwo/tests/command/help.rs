@@ -1,10 +1,12 @@
 //! Running the command, and files to run it on.
 
+use std::collections::BTreeMap;
 use std::ffi::OsStr;
 use std::fs;
 use std::io::Write;
 use std::path::{Path, PathBuf};
 use std::process::{Command, Output, Stdio};
+use std::sync::Mutex;
 
 /// How a run ended: exit status, standard output, standard error.
 #[derive(Debug, PartialEq, Eq)]
@@ -80,6 +82,26 @@ pub fn folder_with(name: &str, files: &[&str]) -> PathBuf {
         fs::write(folder.join(file), sample(file)).expect(file);
     }
     folder
+}
+
+/// A C program or library for these tests, compiled once: another test may be running it.
+pub fn compiled(source: &'static str, flags: &[&str]) -> PathBuf {
+    static COMPILED: Mutex<BTreeMap<&str, PathBuf>> = Mutex::new(BTreeMap::new());
+    let mut compiled = COMPILED.lock().expect("no compilation failed");
+    let built = || {
+        let sources = Path::new(env!("CARGO_MANIFEST_DIR")).join("tests/command");
+        let built = Path::new(env!("CARGO_TARGET_TMPDIR")).join(format!("{source}.built"));
+        let status = Command::new("gcc")
+            .args(["-std=c99", "-Wall", "-Wextra", "-Werror"])
+            .args(flags)
+            .arg(sources.join(source))
+            .arg("-o")
+            .arg(&built)
+            .status();
+        assert!(status.expect("gcc starts").success(), "{source}");
+        built
+    };
+    compiled.entry(source).or_insert_with(built).clone()
 }
 
 /// The names of everything in a folder, in order.

@@ -55,6 +55,24 @@ fn two_files_are_several() {
     assert_eq!(listed, Run::new(1, &printed, ""));
 }
 
+#[test]
+fn a_listing_as_json() {
+    let printed = "{\"file\":\"oak.lwo\",\"accepted\":true,\"points\":3,\"polygons\":1,\
+\"vertices\":3,\"names\":1,\"name_bytes\":3,\"skipped\":0,\"details\":0,\
+\"polygon_list\":[{\"kind\":1,\"surface\":1,\"vertices\":[0,1,2]}]}
+{\"file\":\"none.lwo\",\"accepted\":false,\"not_read\":\"there is no such file\"}
+";
+    let listed = run(&samples(), &["list", "--json", "oak.lwo", "none.lwo"]);
+    assert_eq!(listed, Run::new(1, printed, ""));
+}
+
+/// Only check and boards go through folders: a listing is of one file.
+#[test]
+fn a_folder_is_not_listed() {
+    let told = "lwo: .: not read: it is a folder\n";
+    assert_eq!(run(&samples(), &["list", "."]), Run::new(1, "", told));
+}
+
 /// Where both go to one file, what is told of a file stands in its place between the listings.
 #[test]
 fn what_is_told_stands_between_the_listings() {

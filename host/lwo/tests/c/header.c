@@ -84,6 +84,27 @@ static LwoAnswer needs(const uint8_t *file, size_t length)
     return answer;
 }
 
+/* A table, file or output of length 0 may be NULL. */
+static void takes_null(void)
+{
+    LwoAnswer need = lwo_read(CASE_L, sizeof CASE_L, NULL, 0, NULL, 0, NULL, 0,
+                              NULL, 0, NULL, 0, NULL, 0);
+    same("tables that are NULL", need.number, LWO_NO_ROOM);
+    same_counts(need);
+    LwoAnswer none = lwo_read(NULL, 0, NULL, 0, NULL, 0, NULL, 0, NULL, 0, NULL, 0,
+                              NULL, 0);
+    same("a file that is NULL", none.number, LWO_NOT_AN_OBJECT);
+    LwoWritten written = lwo_write(NULL, 0, NULL, 0, NULL, 0, NULL, 0, NULL, 0,
+                                   NULL, 0, NULL, 0);
+    same("an output that is NULL", written.number, LWO_NO_ROOM);
+    same("the length of the empty mesh's file", written.length, 12);
+    uint8_t out[12];
+    written = lwo_write(NULL, 0, NULL, 0, NULL, 0, NULL, 0, NULL, 0, NULL, 0, out,
+                        sizeof out);
+    same("the empty mesh written", written.number, LWO_ACCEPTED);
+    same_bytes("its file", out, (const uint8_t *)"FORM\0\0\0\4LWO2", sizeof out);
+}
+
 /* Tables of the size that case l needs, each with one element more, which is not
    lent. */
 typedef struct Tables {
@@ -219,6 +240,8 @@ static void refuses_to_read(void)
 
 int main(void)
 {
+    same("version", lwo_version(), LWO_VERSION_NUMBER);
+    takes_null();
     reads_in_two_calls();
     writes_in_two_calls();
     refuses_to_read();
