@@ -1,4 +1,4 @@
-// The static library for C and Rust: thin functions over the proved reader and writer. A slice is a pointer and a length in elements. Neither function has
+// The static library for C and Rust: thin functions over the proved reader and writer. A slice is a pointer and a length in elements. No function has
 // a precondition, so that nothing a caller lends can break what is proved.
 ghost use mathlib.Core.Path.{_≡_};
 ghost use Rattle.format.specs.Mesh.{lent};
@@ -30,7 +30,7 @@ pub struct LwoWritten {
     pub length: u64,
 }
 
-// The library's version: 65,536 times the first of its three numbers, 256 times the second, and the third. The header has the same.
+// The library's version, its three numbers in one: the last two have eight bits each, and the first what is above them. The header has the same.
 #[no_mangle]
 pub extern "C" fn lwo_version() -> u32
     ensures { λ r. ⌜ r ≡ version 0 1 0 ⌝ }
