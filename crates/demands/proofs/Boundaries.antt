@@ -1,6 +1,6 @@
 -- The walk over a file's chunks, boundary by boundary: the first chunk that has a fault is the one that is told, and a file without one ends at a boundary.
 use Prim.Native.Nat.{ℕ, zero, suc, _+_, _-_, _≤_, _<_}
-use mathlib.Core.Path.{_≡_, refl, ap, subst, _∙_}
+use mathlib.Core.Path.{_≡_, refl, sym, ap, subst, _∙_}
 use mathlib.Core.List.{List, _∷_}
 use mathlib.Core.Bool.{Bool, true, false, not, _||_, true≢false}
 use native.Mathlib.Omega.{arith}
@@ -14,13 +14,14 @@ use Rattle.format.specs.declared.Fault.the-variants.{BadHeader}
 use Rattle.format.specs.Bytes.{_is_, number}
 use Rattle.format.specs.Limits.{fileLimit}
 use Rattle.format.specs.Refusals.{numberOf, placeOf}
-use Rattle.format.specs.Items.{Verdict, fine, fault, Got, _then_}
+use Rattle.format.specs.Items.{Verdict, fine, fault, Got, _andThen_}
 use Rattle.format.specs.Chunks.{Chunk, sizeOf, lengthOf, wellFormed, chunkOf, Chunks, finished, broken, chunk, chunks}
 use Rattle.format.specs.Bodies.{Part}
 use Rattle.format.specs.Mesh.{Mesh}
-use Rattle.format.specs.Rules.{Before, start, after, judge, located, walk, form, gives, rules}
-use Rattle.format.proofs.Verdicts.{passed}
-use Rattle.format.proofs.Walks.{accepted}
+use Rattle.format.specs.Rules.{Before, start, after, judge, located, PartAt, walk, form, partsOf, gives, rules}
+use Rattle.format.specs.Contracts.{walkParts}
+use Rattle.format.proofs.Verdicts.{known, passed}
+use Rattle.format.proofs.ChunkWalk.{accepted}
 use Rattle.format.proofs.Tiling as tiling
 use Rattle.format.proofs.Facts.{every-at}
 use Rattle.laws.proofs.Chunks.{chunkIn}
@@ -44,7 +45,7 @@ pub record Whole (file : List ℕ) (place : ℕ) : Type 0 where
   pub judged : (kind : Kind) (b : Before) → chunkJudged kind b (drop place file) ≡ judge kind b (got .value .tag) (got .value .body)
 
 pub whole : (file : List ℕ) (place : ℕ) → wellFormed 4 (drop place file) ≡ true → Whole file place
-unfolding chunkOf wellFormed sizeOf chunkJudged _then_
+unfolding chunkOf wellFormed sizeOf chunkJudged _andThen_
 whole file place ok =
     let b : List ℕ = drop place file in
     let got : Got Chunk = record { value = chunkIn 4 b; next = place + sizeAt file place; left = drop (sizeAt file place) b } in
@@ -62,17 +63,17 @@ whole file place ok =
     }
 
 -- what stands at a place: the file's end, no chunk, or a chunk and then the chunks after it
-data Standing (file : List ℕ) (place : ℕ) : Type 0 where
-  end : length file ≤ place → chunks (drop place file) ≡ finished → Standing file place
-  none : place < length file → chunks (drop place file) ≡ broken → wellFormed 4 (drop place file) ≡ false → Standing file place
+data NextChunk (file : List ℕ) (place : ℕ) : Type 0 where
+  end : length file ≤ place → chunks (drop place file) ≡ finished → NextChunk file place
+  none : place < length file → chunks (drop place file) ≡ broken → wellFormed 4 (drop place file) ≡ false → NextChunk file place
   one : place < length file → wellFormed 4 (drop place file) ≡ true → (w : Whole file place)
-      → chunks (drop place file) ≡ chunk (w .got .value .tag) (w .got .value .body) (chunks (drop (place + sizeAt file place) file)) → Standing file place
+      → chunks (drop place file) ≡ chunk (w .got .value .tag) (w .got .value .body) (chunks (drop (place + sizeAt file place) file)) → NextChunk file place
 
-standing : (file : List ℕ) (place : ℕ) → Standing file place
+next-chunk-at : (file : List ℕ) (place : ℕ) → NextChunk file place
 unfolding chunkOf
-standing file place = by (ltb place (length file)) (wellFormed 4 (drop place file)) refl refl
+next-chunk-at file place = by (ltb place (length file)) (wellFormed 4 (drop place file)) refl refl
   where
-    by : (t u : Bool) → ltb place (length file) ≡ t → wellFormed 4 (drop place file) ≡ u → Standing file place
+    by : (t u : Bool) → ltb place (length file) ≡ t → wellFormed 4 (drop place file) ≡ u → NextChunk file place
     by false u past ok = let over : length file ≤ place = ltb-false _ _ past in end over (ap chunks (drop-of-length-le file {i = place} over) ∙ tiling.none)
     by true false some ok =
         let inside : place < length file = ltb-true _ _ some in
@@ -108,27 +109,27 @@ record Here (kind : Kind) (file : List ℕ) (place : ℕ) (b : Before) : Type 0 
 
 module _ (file : List ℕ) (kind : Kind) where
   no-header : (b : Before) (place : ℕ) → Here kind file place b → place < length file → wellFormed 4 (drop place file) ≡ false → FaultAt kind file BadHeader (placeOf place 0)
-  unfolding numberOf chunkJudged chunkOf _then_
+  unfolding numberOf chunkJudged chunkOf _andThen_
   no-header b place here inside ok = record { of-chunk = refl; chunk = place; inside = inside; before = b; earlier = here .earlier; at = 0; faulty = rw ok; place-is = refl }
 
   walk-chunk : (b : Before) (place : ℕ) (rest : Chunks) → Here kind file place b → place < length file → (ok : wellFormed 4 (drop place file) ≡ true) → (w : Whole file place)
       → ((part : Part) → Here kind file (place + sizeAt file place) (after b part) → Walked kind file (walk kind (after b part) (place + sizeOf 4 (length (w .got .value .body))) rest))
       → Walked kind file (walk kind b place (chunk (w .got .value .tag) (w .got .value .body) rest))
-  unfolding walk located _then_
+  unfolding walk located _andThen_
   walk-chunk b place rest here inside ok w later = by (judge kind b (w .got .value .tag) (w .got .value .body)) refl
     where
-      on : (part : Part) (v : Verdict (List Part)) → Walked kind file v → Walked kind file (v then λ parts. fine (part ∷ parts))
+      on : (part : Part) (v : Verdict (List PartAt)) → Walked kind file v → Walked kind file (v andThen λ parts. fine (record { place = place; part = part } ∷ parts))
       on part (fine parts) x = x
       on part (fault why at) x = x
 
       by : (v : Verdict Part) → judge kind b (w .got .value .tag) (w .got .value .body) ≡ v
-          → Walked kind file (located place v then λ part. walk kind (after b part) (place + sizeOf 4 (length (w .got .value .body))) rest then λ parts. fine (part ∷ parts))
+          → Walked kind file (located place v andThen λ part. walk kind (after b part) (place + sizeOf 4 (length (w .got .value .body))) rest andThen λ parts. fine (record { place = place; part = part } ∷ parts))
       by (fine part) e =
           let there : Here kind file (place + sizeAt file place) (after b part) = record { boundary = next (here .boundary) ok; earlier = places.FineUpTo.next (here .earlier) (w .judged kind b ∙ e); most = w .ends } in
           on part (walk kind (after b part) (place + sizeOf 4 (length (w .got .value .body))) rest) (later part there)
       by (fault why at) e = record { of-chunk = fault-in-chunk kind b (w .got .value .tag) (w .got .value .body) e .of-chunk; chunk = place; inside = inside; before = b; earlier = here .earlier; at = at; faulty = w .judged kind b ∙ e; place-is = refl }
 
-  walk-here : (b : Before) (place : ℕ) → Here kind file place b → Standing file place
+  walk-here : (b : Before) (place : ℕ) → Here kind file place b → NextChunk file place
       → (place < length file → (ok : wellFormed 4 (drop place file) ≡ true) (part : Part) → Here kind file (place + sizeAt file place) (after b part)
       → Walked kind file (walk kind (after b part) (place + sizeAt file place) (chunks (drop (place + sizeAt file place) file))))
       → Walked kind file (walk kind b place (chunks (drop place file)))
@@ -139,9 +140,9 @@ module _ (file : List ℕ) (kind : Kind) where
       rw cs (walk-chunk b place (chunks (drop (place + sizeAt file place) file)) here inside ok w (λ part there. rw (w .size) (later inside ok part there)))
 
   walked : (n : ℕ) (b : Before) (place : ℕ) → Here kind file place b → length file ≤ place + n → Walked kind file (walk kind b place (chunks (drop place file)))
-  walked zero b place here few = walk-here b place here (standing file place) (λ inside ok part there. absurd (omega arith))
+  walked zero b place here few = walk-here b place here (next-chunk-at file place) (λ inside ok part there. absurd (omega arith))
   walked (suc n) b place here few =
-      walk-here b place here (standing file place) (λ inside ok part there. walked n (after b part) (place + sizeAt file place) there (omega (arith, whole file place ok .some)))
+      walk-here b place here (next-chunk-at file place) (λ inside ok part there. walked n (after b part) (place + sizeAt file place) there (omega (arith, whole file place ok .some)))
 
 -- ---- the file
 
@@ -163,7 +164,9 @@ walked-file file kind e = walked file kind (length file) start 12 (record { boun
 
 -- the end of a file that the rules give a mesh
 pub last : {file : List ℕ} {m : Mesh} {k d : ℕ} → rules file ≡ gives m k d → Boundary file (length file)
+unfolding walkParts
 last {file} e =
     let a = accepted e in
-    let ends : Walked (a .kind) file (fine (a .parts)) = rw (a .walked) at (walked-file file (a .kind) (a .formed)) in
+    let k = known (walk (a .kind) start 12 (chunks (drop 12 file))) partsOf (sym (a .walked)) in
+    let ends : Walked (a .kind) file (fine (k .value)) = rw (k .is) at (walked-file file (a .kind) (a .formed)) in
     ends

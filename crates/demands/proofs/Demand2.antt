@@ -18,8 +18,8 @@ use Rattle.format.specs.Answer.{Answer, answer, fits, over, filled, tablesAfter
 use Rattle.format.specs.Canonical.{canonical}
 use Rattle.format.specs.Written.{goodMesh, meshFrom, isMesh, Written, says, written, outputAfter, Writes}
 use Rattle.format.proofs.Facts.{length-entries, length-joined, length-joined-map}
-use Rattle.format.proofs.Walks.{within-limit}
-use Rattle.format.proofs.Walks.{accepted as accepted-file}
+use Rattle.format.proofs.ChunkWalk.{within-limit}
+use Rattle.format.proofs.ChunkWalk.{accepted as accepted-file}
 use Rattle.laws.proofs.Accepted.{accepted-good}
 use Rattle.laws.proofs.Lengths.{Counts}
 use Rattle.laws.proofs.Meshes.{good}
@@ -27,7 +27,7 @@ use Rattle.laws.proofs.RoundTrip.{round-trip}
 use Rattle.laws.proofs.Tables.{mesh-from-tables, tables-back, good-mesh-tables, tables-of-mesh}
 use Rattle.laws.proofs.WrittenBack.{wrote, written-back}
 use Rattle.demands.specs.Demand2.{Readable, accepted, ReadsMesh, Writable, Wrote, WritesMesh, MeshWithin, SameMesh, JustFits, Demand2}
-use Rattle.survey.proofs.NeedsBound.{few-needs}
+use Rattle.validate.proofs.NeedsBound.{few-needs}
 use Rattle.demands.proofs.Refusals.{InOutcome, rules-in}
 
 -- ---- reading

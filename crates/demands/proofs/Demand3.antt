@@ -13,7 +13,7 @@ use Rattle.format.specs.declared.Kind.the-variants.{LWO2}
 use Rattle.format.specs.Bytes.{number, every, all}
 use Rattle.format.specs.Refusals.{noRoom}
 use Rattle.format.specs.Mesh.{Mesh, Tables, tables, Needs, needs, pointSize, polygonSize, recordSize}
-use Rattle.format.specs.Items.{_then_}
+use Rattle.format.specs.Items.{_andThen_}
 use Rattle.format.specs.Chunks.{sizeOf, lengthOf, wellFormed}
 use Rattle.format.specs.Rules.{kindOf, form, gives, rules}
 use Rattle.format.specs.Canonical.{bytes, chunkBytes, formBytes}
@@ -125,5 +125,5 @@ demand-3 = record {
 
 -- There is such a file and such a chunk: case a of document 01 with an empty chunk put in, which is then its first and its last. Computed.
 pub one-more-there : OneMore LWO2 (formBytes "LWO2" []) 12 (chunkBytes 4 "JUNK" [])
-unfolding form kindOf number formBytes chunkBytes bytes wellFormed sizeOf lengthOf every all _then_
+unfolding form kindOf number formBytes chunkBytes bytes wellFormed sizeOf lengthOf every all _andThen_
 one-more-there = record { of-kind = refl; between = first; unlisted = record { formed = refl; exact = refl; tag = refl }; limit = omega arith }

@@ -1,4 +1,4 @@
--- A file with one more chunk put in at a boundary: it is of the same kind, and its chunks are the file's with the one more. Assumes nothing.
+-- A file with one more chunk put in at a boundary: it is of the same kind, and its chunks are the file's with the one more.
 use Prim.Native.Nat.{ℕ, _+_, _-_, _≤_}
 use mathlib.Core.Path.{_≡_, refl, sym, ap, _∙_}
 use mathlib.Core.List.{List, [], _∷_, _++_, append-assoc}
@@ -11,16 +11,17 @@ use borrow.Author.Tests.{le-ltb, eq-eqb}
 use Rattle.format.specs.declared.Kind.{Kind}
 use Rattle.format.specs.Bytes.{_is_, number}
 use Rattle.format.specs.Limits.{fileLimit}
-use Rattle.format.specs.Items.{fine, _then_}
+use Rattle.format.specs.Items.{fine, _andThen_}
 use Rattle.format.specs.Chunks.{Chunk, wellFormed, Chunks, chunk, chunks}
 use Rattle.format.specs.Mesh.{Mesh}
-use Rattle.format.specs.Rules.{kindOf, form, judged, gives, rules}
+use Rattle.format.specs.Rules.{kindOf, form, gives, rules}
 use Rattle.format.specs.Canonical.{bytes}
 use Rattle.format.proofs.Verdicts.{then-fine, chosen, passed}
-use Rattle.laws.proofs.Items.{length-bytes, number-bytes}
+use Rattle.format.proofs.CanonicalLengths.{length-bytes}
+use Rattle.laws.proofs.Items.{number-bytes}
 use Rattle.laws.proofs.Chunks.{chunkIn, reads-whole, front}
 use Rattle.laws.proofs.Tiles.{inFront, next-chunk}
-use Rattle.laws.proofs.Form.{outcomeOf}
+use Rattle.laws.proofs.Form.{outcomeOf, rules-of}
 use Rattle.laws.proofs.Unlisted.{inserted-chunk}
 use Rattle.demands.specs.Demand3.{formLength, withChunk, OneMore}
 use Rattle.demands.specs.Places.{Boundary, first, next}
@@ -32,7 +33,7 @@ module _ (s : List ℕ) (kind : Kind) (e : form s ≡ fine kind) where
   -- a longer file with the same tag and type, and with its own length, is of the same kind
   longer-form : (l : List ℕ) → take 4 l ≡ take 4 s → take 4 (drop 8 l) ≡ take 4 (drop 8 s) → length s ≤ length l → length l ≤ fileLimit → number (take 4 (drop 4 l)) + 8 ≡ length l
       → form l ≡ fine kind
-  unfolding form _then_
+  unfolding form _andThen_
   longer-form l tag type more few told =
       let short = passed (ltb fileLimit (length s)) _ _ _ e in
       let known = passed (ltb (length s) 12 || not (number (take 4 s) is "FORM")) _ _ _ (short .1) in
@@ -41,11 +42,6 @@ module _ (s : List ℕ) (kind : Kind) (e : form s ≡ fine kind) where
       let said = chosen (eqb (number (take 4 (drop 4 s)) + 8) (length s)) _ _ _ (typed .2) in
       let long : 12 ≤ length l = omega (arith, headed s kind e) in
       rw (le-ltb fileLimit (length l) few, le-ltb (length l) 12 long, tag, type, tests .1, typed .1, eq-eqb (number (take 4 (drop 4 l)) + 8) (length l) told) (said .1)
-
--- a file's outcome is that of its chunks
-rules-of : (s : List ℕ) (kind : Kind) → form s ≡ fine kind → rules s ≡ outcomeOf kind (chunks (drop 12 s))
-unfolding rules judged _then_
-rules-of s kind e = rw e
 
 -- a file by its tag, its length, its type and its chunks
 record Twelve (s tag told type rest : List ℕ) : Type 0 where

@@ -13,10 +13,10 @@ use Rattle.format.specs.declared.Fault.the-variants.{FileTooLong, NotForm, Form
 use Rattle.format.specs.Bytes.{if_then_else_, _is_, between, number}
 use Rattle.format.specs.Limits.{fileLimit}
 use Rattle.format.specs.Refusals.{numberOf}
-use Rattle.format.specs.Items.{Verdict, fine, fault, _then_}
+use Rattle.format.specs.Items.{Verdict, fine, fault, _andThen_}
 use Rattle.format.specs.Chunks.{chunks}
 use Rattle.format.specs.Bodies.{Part}
-use Rattle.format.specs.Rules.{start, walk, kindOf, form, judged, Outcome, refused, gives, outcome, rules}
+use Rattle.format.specs.Rules.{start, PartAt, walk, kindOf, form, judged, Outcome, refused, gives, outcome, rules}
 use Rattle.format.proofs.Facts.{between-true}
 use Rattle.demands.specs.Places.{ChunkAtFault}
 use Rattle.demands.specs.Demand1.{placedInChunk}
@@ -46,13 +46,13 @@ kind-in t = by (t is "LWOB") (t is "LWO2")
     by false false = (refl, refl)
 
 form-in : (s : List ℕ) → InFile (form s)
-unfolding form numberOf _then_
+unfolding form numberOf _andThen_
 form-in s =
     by (ltb fileLimit (length s)) (ltb (length s) 12 || not (number (take 4 s) is "FORM")) (kindOf (number (take 4 (drop 8 s)))) (kind-in (number (take 4 (drop 8 s))))
     (eqb (number (take 4 (drop 4 s)) + 8) (length s))
   where
     by : (a b : Bool) (v : Verdict Kind) → InFile v → (c : Bool)
-        → InFile (if a then fault FileTooLong 0 else if b then fault NotForm 0 else (v then λ kind. if c then fine kind else fault FormLength 0))
+        → InFile (if a then fault FileTooLong 0 else if b then fault NotForm 0 else (v andThen λ kind. if c then fine kind else fault FormLength 0))
     by true b v w c = (refl, refl)
     by false true v w c = (refl, refl)
     by false false (fine k) w true = tt
@@ -80,15 +80,15 @@ module _ (file : List ℕ) where
       record { some = omega arith; few = omega arith; of-chunk = λ e. absurd (omega (arith, between-true _ _ (numberOf why) e)); of-file = λ e. w .1 }
 
   judged-in : InTable file (judged file)
-  unfolding judged _then_
+  unfolding judged _andThen_
   judged-in = by (form file) (form-in file) refl
     where
-      on : (kind : Kind) → form file ≡ fine kind → (v : Verdict (List Part)) → Walked kind file v → InTable {A = Kind × List Part} file (v then λ parts. fine (kind, parts))
+      on : (kind : Kind) → form file ≡ fine kind → (v : Verdict (List PartAt)) → Walked kind file v → InTable {A = Kind × List PartAt} file (v andThen λ parts. fine (kind, parts))
       on kind e (fine parts) w = tt
       on kind e (fault why at) w = chunk-row kind e why at w
 
       by : (v : Verdict Kind) → InFile v → form file ≡ v
-          → InTable {A = Kind × List Part} file (v then λ kind. walk kind start 12 (chunks (drop 12 file)) then λ parts. fine (kind, parts))
+          → InTable {A = Kind × List PartAt} file (v andThen λ kind. walk kind start 12 (chunks (drop 12 file)) andThen λ parts. fine (kind, parts))
       by (fault why at) w e = file-row why at w
       by (fine kind) w e = on kind e (walk kind start 12 (chunks (drop 12 file))) (walked-file file kind e)
 
@@ -101,6 +101,6 @@ pub rules-in : (file : List ℕ) → InOutcome file (rules file)
 unfolding rules outcome
 rules-in file = by (judged file) (judged-in file)
   where
-    by : (v : Verdict (Kind × List Part)) → InTable file v → InOutcome file (outcome v)
+    by : (v : Verdict (Kind × List PartAt)) → InTable file v → InOutcome file (outcome v)
     by (fine f) w = tt
     by (fault why at) w = w

@@ -7,7 +7,7 @@ use lib.ListN.{length, drop}
 use Rattle.format.specs.declared.Kind.{Kind}
 use Rattle.format.specs.declared.Fault.{Fault}
 use Rattle.format.specs.Refusals.{numberOf, placeOf}
-use Rattle.format.specs.Items.{Verdict, fine, fault, _then_, Got}
+use Rattle.format.specs.Items.{Verdict, fine, fault, _andThen_, Got}
 use Rattle.format.specs.Chunks.{Chunk, sizeOf, lengthOf, wellFormed, chunkOf}
 use Rattle.format.specs.Bodies.{Part}
 use Rattle.format.specs.Rules.{Before, start, after, judge, form}
@@ -19,7 +19,7 @@ pub data Boundary (file : List ℕ) : ℕ → Type 0 where
 
 -- The chunk that starts at the front of s, after what stands before it: "A chunk's tag, length and pad are judged together (4), then 5", and then its body.
 unfoldable pub chunkJudged : Kind → Before → List ℕ → Verdict Part
-chunkJudged kind b s = chunkOf 4 0 s then λ c. judge kind b (c .value .tag) (c .value .body)
+chunkJudged kind b s = chunkOf 4 0 s andThen λ c. judge kind b (c .value .tag) (c .value .body)
 
 -- all chunks from the first up to a boundary are fine, and leave b for the chunk that stands there
 pub data FineUpTo (kind : Kind) (file : List ℕ) : (place : ℕ) → Before → Type 0 where

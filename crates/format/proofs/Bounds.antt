@@ -1,5 +1,5 @@
 -- The bounds of document 01 by its own numbers, over lists of any content, since no case that is computed is so long: the test of a length comes to one
--- comparison with the number. Assumes nothing.
+-- comparison with the number.
 use Prim.Native.Nat.{ℕ, _+_, _*_, _/_, _%_, _≤_, _<_}
 use mathlib.Core.Path.{_≡_, refl}
 use mathlib.Core.List.{List, [], _∷_}
@@ -13,13 +13,13 @@ use Rattle.format.specs.declared.Kind.{Kind}
 use Rattle.format.specs.declared.Kind.the-variants.{LWOB}
 use Rattle.format.specs.declared.Fault.the-variants.{NotForm}
 use Rattle.format.specs.Bytes.{if_then_else_, _is_, between, number, every, all}
-use Rattle.format.specs.Limits.{fileLimit, vertexLimit}
+use Rattle.format.specs.Limits.{fileLimit, lwo2VertexLimit}
 use Rattle.format.specs.Refusals.{numberOf}
-use Rattle.format.specs.Items.{Verdict, fine, fault, _then_}
+use Rattle.format.specs.Items.{Verdict, fine, fault, _andThen_}
 use Rattle.format.specs.Chunks.{sizeOf, Chunks, finished, broken, chunk}
-use Rattle.format.specs.Mesh.{Polygon, FACE, PATCH, Tables}
+use Rattle.format.specs.Mesh.{polygonOf, Polygon, FACE, PATCH, Tables}
 use Rattle.format.specs.Bodies.{Part, wholePoints}
-use Rattle.format.specs.Rules.{Before, start, after, judge, located, walk, kindOf, form, judged, outcome, refused, rules}
+use Rattle.format.specs.Rules.{Before, start, after, judge, located, PartAt, walk, kindOf, form, judged, outcome, refused, rules}
 use Rattle.format.specs.Canonical.{bytes, vxBytes, canonical}
 use Rattle.format.specs.Written.{meshFrom, wholeEntries, goodPolygon, isMesh, Written, says, written}
 use Rattle.format.proofs.Facts.{impossible, every-at}
@@ -27,7 +27,7 @@ use Rattle.format.proofs.Facts.{impossible, every-at}
 -- ---- "File read or written: at most 16,777,216 bytes."
 
 pub file-too-long : (s : List ℕ) → 16777216 < length s → rules s ≡ refused 1 0
-unfolding rules judged form outcome numberOf _then_
+unfolding rules judged form outcome numberOf _andThen_
 file-too-long s h = rw (lt-ltb fileLimit (length s) (omega arith))
 
 -- a verdict that is not answered 1 at 0: by its number before the chunks, and by its place from there on
@@ -41,8 +41,8 @@ record Other {A : Type 0} (v : Verdict A) : Type 0 where
 other-fine : {A : Type 0} {a : A} → Other (fine a)
 other-fine = record { so = tt }
 
-other-then : {A B : Type 0} {v : Verdict A} (f : A → Verdict B) → Other v → ((a : A) → Other (f a)) → Other (v then f)
-unfolding _then_
+other-then : {A B : Type 0} {v : Verdict A} (f : A → Verdict B) → Other v → ((a : A) → Other (f a)) → Other (v andThen f)
+unfolding _andThen_
 other-then {v = fine a} f h later = later a
 other-then {v = fault why p} f h later = record { so = h .so }
 
@@ -74,7 +74,7 @@ pub file-not-too-long : (s : List ℕ) → length s ≤ 16777216 → rules s ≡
 unfolding rules judged outcome
 file-not-too-long s h e = by (judged s) (other-then _ (other-form s h) (λ kind. other-then _ (other-walk kind start 12 _ (omega arith)) (λ parts. other-fine))) e
   where
-    by : (v : Verdict (Kind × List Part)) → Other v → outcome v ≡ refused 1 0 → ⊥
+    by : (v : Verdict (Kind × List PartAt)) → Other v → outcome v ≡ refused 1 0 → ⊥
     by (fine f) k e = impossible cc
     by (fault why at) k e = let one : numberOf why ≡ 1 = cc in let first : at ≡ 0 = cc in k .so one first
 
@@ -129,10 +129,10 @@ mesh-entries t e = (
 
 -- of a surface that is not above the name count: up to the number it is as good as none
 pub surface-allowed : (points names : ℕ) (p : Polygon) → p .surface ≤ names
-    → goodPolygon points names p ≡ (goodPolygon points names (record { kind = p .kind; surface = 0; vertices = p .vertices }) && leb (p .surface) 65536)
+    → goodPolygon points names p ≡ (goodPolygon points names (polygonOf (p .kind) 0 (p .vertices)) && leb (p .surface) 65536)
 unfolding goodPolygon every
 surface-allowed points names p h =
-    by (between FACE PATCH (p .kind)) (between 1 vertexLimit (length (p .vertices))) (all (λ v. ltb v points) (p .vertices)) (leb (p .surface) 65536) (le-leb (p .surface) names h) (le-leb 0 names (omega arith))
+    by (between FACE PATCH (p .kind)) (between 1 lwo2VertexLimit (length (p .vertices))) (all (λ v. ltb v points) (p .vertices)) (leb (p .surface) 65536) (le-leb (p .surface) names h) (le-leb 0 names (omega arith))
   where
     by : (a b c d : Bool) {e f : Bool} → e ≡ true → f ≡ true → every (a ∷ b ∷ c ∷ e ∷ d ∷ []) ≡ (every (a ∷ b ∷ c ∷ f ∷ true ∷ []) && d)
     by true true true true e f = rw (e, f)

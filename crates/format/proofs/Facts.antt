@@ -1,4 +1,4 @@
--- Facts about tests and about joined lists. Assumes nothing.
+-- Facts about tests and about joined lists.
 use Prim.Native.Nat.{ℕ, zero, suc, _*_, _/_, _%_, _^_, _≤_, _<_}
 use mathlib.Core.Path.{_≡_, refl, sym, ap, _∙_}
 use mathlib.Core.List.{List, [], _∷_, _++_, map, map-append}

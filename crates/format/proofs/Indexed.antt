@@ -1,4 +1,4 @@
--- A list that is walked by an index, and pieces whose lengths are walked so. Assumes nothing.
+-- A list that is walked by an index, and pieces whose lengths are walked so.
 use Prim.Native.Nat.{ℕ, _+_, _-_, _<_, _≤_}
 use mathlib.Core.Path.{_≡_, refl, sym, ap, _∙_}
 use mathlib.Core.List.{List, [], _∷_, _++_, map, append-assoc, append-nil}

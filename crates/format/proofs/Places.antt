@@ -1,4 +1,4 @@
--- The items of a body by their place: what each reader says there, from the bytes that stand there. Assumes nothing.
+-- The items of a body by their place: what each reader says there, from the bytes that stand there.
 use mathlib.Core.Path.{_≡_, refl, sym, _∙_}
 use mathlib.Core.List.{List}
 use mathlib.Core.Bool.{Bool, true, false}
@@ -12,21 +12,21 @@ use lib.Seq.{drop-cons, drop-drop}
 use borrow.Author.Tests.{le-leb, lt-leb, eq-eqb, ne-eqb, ltb-true, ltb-false}
 use Rattle.format.specs.declared.Fault.the-variants.{ItemCut, NotFinite}
 use Rattle.format.specs.Bytes.{number, signed, finite}
-use Rattle.format.specs.Items.{Verdict, Got, fault, _then_, _>>=_, _or_unless_, item, uint, u2, u4, i2, vx, float, long}
-use Rattle.format.specs.Said.{ReadsAt, taking, got}
-use Rattle.format.proofs.Saying.{exact, exactly}
+use Rattle.format.specs.Items.{Verdict, Got, fault, _andThen_, _>>=_, _or_unless_, item, uint, u2, u4, i2, vx, float, long}
+use Rattle.format.specs.Contracts.{ReadsAt, taking, got}
+use Rattle.format.proofs.ReaderSteps.{exact, exactly}
 
 -- ---- numbers of any width
 
 module _ (n : ℕ) {s : List ℕ} {at : ℕ} where
   pub uint-cut : length s - at < n → ReadsAt (uint n) (taking n) s at (fault ItemCut at)
-  unfolding uint item _then_ _>>=_
+  unfolding uint item _andThen_ _>>=_
   uint-cut h =
       let short : length (drop at s) < n = rw length-drop (omega arith) in
       record { says = exact (rw (lt-leb n (length (drop at s)) short)); moves = tt }
 
   pub uint-whole : {v : ℕ} → at + n ≤ length s → v ≡ number (take n (drop at s)) → ReadsAt (uint n) (taking n) s at (got s v (at + n))
-  unfolding uint item _then_ _>>=_
+  unfolding uint item _andThen_ _>>=_
   uint-whole h is =
       let long : n ≤ length (drop at s) = rw length-drop (omega arith) in
       record { says = exact (rw (le-leb n (length (drop at s)) long, drop-drop n at s, is)); moves = omega arith }
@@ -64,31 +64,31 @@ is-long s at b e = by (ltb at (length s)) refl
 
 module _ {s : List ℕ} {at : ℕ} where
   pub i2-cut : ReadsAt u2 (taking 2) s at (fault ItemCut at) → ReadsAt i2 (taking 2) s at (fault ItemCut at)
-  unfolding i2 _then_ _>>=_
+  unfolding i2 _andThen_ _>>=_
   i2-cut r = record { says = exact (rw (exactly (r .says))); moves = tt }
 
   pub i2-whole : {v nx : ℕ} {z : ℤ} → ReadsAt u2 (taking 2) s at (got s v nx) → z ≡ signed v → ReadsAt i2 (taking 2) s at (got s z nx)
-  unfolding i2 _then_ _>>=_
+  unfolding i2 _andThen_ _>>=_
   i2-whole r f = record { says = exact (rw (exactly (r .says), f)); moves = r .moves }
 
   pub float-cut : ReadsAt u4 (taking 4) s at (fault ItemCut at) → ReadsAt float (taking 4) s at (fault ItemCut at)
-  unfolding float _then_ _or_unless_
+  unfolding float _andThen_ _or_unless_
   float-cut r = record { says = exact (rw (exactly (r .says))); moves = tt }
 
   pub float-is : {v nx : ℕ} → ReadsAt u4 (taking 4) s at (got s v nx) → finite v ≡ true → ReadsAt float (taking 4) s at (got s v nx)
-  unfolding float _then_ _or_unless_
+  unfolding float _andThen_ _or_unless_
   float-is r e = record { says = exact (rw (exactly (r .says), e)); moves = r .moves }
 
   pub float-bad : {v nx : ℕ} → ReadsAt u4 (taking 4) s at (got s v nx) → finite v ≡ false → ReadsAt float (taking 4) s at (fault NotFinite at)
-  unfolding float _then_ _or_unless_
+  unfolding float _andThen_ _or_unless_
   float-bad r e = record { says = exact (rw (exactly (r .says), e)); moves = tt }
 
   pub vx-cut : {b : ℕ} → b ≡ getD s at 0 → b ≡ 255 → ReadsAt u4 (taking 4) s at (fault ItemCut at) → ReadsAt vx (taking 2) s at (fault ItemCut at)
-  unfolding vx _then_ _>>=_
+  unfolding vx _andThen_ _>>=_
   vx-cut e f r = record { says = exact (rw (is-long s at _ e, eq-eqb _ 255 f, exactly (r .says))); moves = tt }
 
   pub vx-long : {b v nx : ℕ} → b ≡ getD s at 0 → b ≡ 255 → ReadsAt u4 (taking 4) s at (got s v nx) → ReadsAt vx (taking 2) s at (got s (v % 16777216) nx)
-  unfolding vx _then_ _>>=_
+  unfolding vx _andThen_ _>>=_
   vx-long e f r = record { says = exact (rw (is-long s at _ e, eq-eqb _ 255 f, exactly (r .says))); moves = omega (arith, r .moves) }
 
   pub vx-short : {b : ℕ} {answer : Verdict (Got ℕ)} → b ≡ getD s at 0 → (b ≡ 255 → ⊥) → ReadsAt u2 (taking 2) s at answer → ReadsAt vx (taking 2) s at answer

@@ -1,4 +1,4 @@
--- Words that are put into a table, one after another. Assumes nothing.
+-- Words that are put into a table, one after another.
 use mathlib.Core.Path.{_≡_, refl, sym, ap, _∙_}
 use mathlib.Core.List.{List, [], _∷_, _++_, append-assoc, append-nil, map, map-append}
 use Prim.Native.Nat.{ℕ, suc, _+_, _-_, _≤_, _<_}
@@ -7,7 +7,7 @@ use native.Mathlib.Omega.{arith}
 use lib.ListN.{length, take, drop, getD, set, length-take, length-drop, length-append, take-append-drop}
 use lib.Seq.{take-at, drop-append-add, drop-drop, drop-cons, set-at}
 use Rattle.format.specs.Bytes.{joined}
-use Rattle.format.specs.Said.{Put}
+use Rattle.format.specs.Contracts.{Put}
 
 pub joined-append : {A : Type 0} (xss yss : List (List A)) → joined (xss ++ yss) ≡ joined xss ++ joined yss
 unfolding joined

@@ -1,4 +1,4 @@
--- A string at a place: a name up to its first zero byte, and one more zero byte where name and terminator together are odd. Assumes nothing.
+-- A string at a place: a name up to its first zero byte, and one more zero byte where name and terminator together are odd.
 use mathlib.Core.Path.{_≡_, refl, sym, ap, _∙_}
 use mathlib.Core.List.{List, [], _∷_}
 use mathlib.Core.Bool.{Bool, true, false, _&&_}
@@ -11,8 +11,8 @@ use borrow.Author.Tests.{ne-eqb, le-leb, lt-leb, eqb-true}
 use Rattle.format.specs.declared.Fault.the-variants.{StringOpen}
 use Rattle.format.specs.Bytes.{if_then_else_, all}
 use Rattle.format.specs.Items.{fault, toZero, stringSize, string}
-use Rattle.format.specs.Said.{ReadsAt, nameSize, got}
-use Rattle.format.proofs.Saying.{exact}
+use Rattle.format.specs.Contracts.{ReadsAt, nameSize, got}
+use Rattle.format.proofs.ReaderSteps.{exact}
 
 pub zero-le : (t : List ℕ) → toZero t ≤ length t
 unfolding toZero

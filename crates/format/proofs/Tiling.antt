@@ -1,4 +1,4 @@
--- The chunks of some bytes: the one that stands at their front, and those of the rest. Assumes nothing.
+-- The chunks of some bytes: the one that stands at their front, and those of the rest.
 use mathlib.Core.Path.{_≡_, refl, ap, subst}
 use mathlib.Core.List.{List, [], _∷_}
 use mathlib.Core.Bool.{Bool, true, false, _&&_, and-eq-true-iff}

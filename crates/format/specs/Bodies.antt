@@ -13,17 +13,24 @@ use Rattle.format.specs.Bytes.{if_then_else_, _is_, between, absolute, n
 use Rattle.format.specs.Limits.{nameLimit, lwobVertexLimit, lwobPointLimit}
 use Rattle.format.specs.Items.{Reader, _>>=_, give, _or_unless_, times, many, u2, u4, i2, float, vx, string}
 use Rattle.format.specs.Chunks.{ofLength, unjudged}
-use Rattle.format.specs.Mesh.{Point, Polygon, FACE, PATCH, Name}
+use Rattle.format.specs.Mesh.{Point, Polygon, polygonOf, FACE, PATCH, Name}
 use Rattle.format.specs.Surfaces.{Value, nested, surfaceDepth}
 
--- What a chunk contributes. Vertices count from the first of the latest points, and the polygons of a tagging from the first of the latest POLS.
+-- a SURF: its name, its source, which is empty in LWOB, and the values of its sub-chunks
+pub record SurfaceChunk : Type 0 where
+  pub name : Name
+  pub source : Name
+  pub values : List Value
+
+-- What a chunk contributes. Vertices count from the first of the latest points. A tagging has the type of its PTAG and pairs of a polygon, counted from the first
+-- of the latest POLS, and a number.
 pub data Part : Type 0 where
-  points : List Point → Part
-  names : List Name → Part
-  polygons : List Polygon → (details : ℕ) → Part
-  tagging : List (ℕ × ℕ) → Part
-  surface : Name → List Value → Part
-  skipped : Part
+  pointList : List Point → Part
+  nameList : List Name → Part
+  polygonList : List Polygon → (details : ℕ) → Part
+  tagging : (type : ℕ) → List (ℕ × ℕ) → Part
+  surface : SurfaceChunk → Part
+  skippedChunk : Part
 
 -- ---- points and names
 
@@ -36,7 +43,7 @@ wholePoints LWOB n = eqb (n % 12) 0 && leb (n / 12) lwobPointLimit
 wholePoints LWO2 n = eqb (n % 12) 0
 
 unfoldable pub pointsBody : Kind → Reader Part
-pointsBody kind = ofLength 4 (wholePoints kind) (do ps ← many point; give (points ps))
+pointsBody kind = ofLength 4 (wholePoints kind) (do ps ← many point; give (pointList ps))
 
 -- SRFS, TAGS: "strings"; 13: "name over 255 bytes, or equal to an earlier name there"
 abbrev pub newName : (earlier : List Name) → Name → Bool
@@ -45,13 +52,13 @@ newName earlier n = leb (length n) nameLimit && not (amongst n earlier)
 unfoldable pub name : (earlier : List Name) → Reader Name
 name earlier = string or BadName unless newName earlier
 
-unfoldable pub namesAfter : ℕ → (earlier : List Name) → Reader (List Name)
+unfoldable pub namesAfter : (most : ℕ) (earlier : List Name) → Reader (List Name)
 namesAfter zero earlier at s = give [] at s
-namesAfter (suc k) earlier at [] = give [] at []
-namesAfter (suc k) earlier at (b ∷ s) = (do n ← name earlier; ns ← namesAfter k (earlier ++ (n ∷ [])); give (n ∷ ns)) at (b ∷ s)
+namesAfter (suc most) earlier at [] = give [] at []
+namesAfter (suc most) earlier at (b ∷ s) = (do n ← name earlier; ns ← namesAfter most (earlier ++ (n ∷ [])); give (n ∷ ns)) at (b ∷ s)
 
 unfoldable pub namesBody : Reader Part
-namesBody at s = (do ns ← namesAfter (length s) []; give (names ns)) at s
+namesBody at s = (do ns ← namesAfter (length s) []; give (nameList ns)) at s
 
 -- ---- polygons
 
@@ -63,14 +70,14 @@ unfoldable pub lwobVertices : (pointCount : ℕ) → Reader (List ℕ)
 lwobVertices pointCount = do n ← u2 or VertexCount unless between 1 lwobVertexLimit; times n (vertex u2 pointCount)
 
 -- "Surface zero names nothing (10)."
-abbrev pub listed : (nameCount : ℕ) → ℤ → Bool
-listed nameCount z = between 1 nameCount (absolute z)
+abbrev pub inNameList : (nameCount : ℕ) → ℤ → Bool
+inNameList nameCount z = between 1 nameCount (absolute z)
 
 -- "Details are checked alike and counted, and not kept (003 says to ignore them). A negative number in a detail is 14 and not 10."
 unfoldable pub detail : (pointCount nameCount : ℕ) → Reader ℤ
 detail pointCount nameCount = do
   vs ← lwobVertices pointCount
-  i2 or DetailSurface unless (λ z. not (negative z)) or SurfaceNumber unless listed nameCount
+  i2 or DetailSurface unless (λ z. not (negative z)) or SurfaceNumber unless inNameList nameCount
 
 -- "In POLS a negative surface means a detail count U2 and that many details follow; the absolute value is the surface number"
 unfoldable pub details : (pointCount nameCount : ℕ) → Reader ℕ
@@ -82,24 +89,24 @@ detailsAfter pointCount nameCount z = if negative z then details pointCount name
 unfoldable pub face : (pointCount nameCount : ℕ) → Reader (Polygon × ℕ)
 face pointCount nameCount = do
   vs ← lwobVertices pointCount
-  z ← i2 or SurfaceNumber unless listed nameCount
+  z ← i2 or SurfaceNumber unless inNameList nameCount
   n ← detailsAfter pointCount nameCount z
-  give (record { kind = FACE; surface = absolute z; vertices = vs }, n)
+  give (polygonOf FACE (absolute z) vs, n)
 
 unfoldable pub facesBody : (pointCount nameCount : ℕ) → Reader Part
 facesBody pointCount nameCount = do
   fs ← many (face pointCount nameCount)
-  give (polygons (map (λ f. f .0) fs) (sum (map (λ f. f .1) fs)))
+  give (polygonList (map (λ f. f .0) fs) (sum (map (λ f. f .1) fs)))
 
 -- "In PCHS a negative number is 10."
 unfoldable pub patch : (pointCount nameCount : ℕ) → Reader Polygon
 patch pointCount nameCount = do
   vs ← lwobVertices pointCount
-  z ← i2 or SurfaceNumber unless (λ z. not (negative z) && listed nameCount z)
-  give (record { kind = PATCH; surface = absolute z; vertices = vs })
+  z ← i2 or SurfaceNumber unless (λ z. not (negative z) && inNameList nameCount z)
+  give (polygonOf PATCH (absolute z) vs)
 
 unfoldable pub patchesBody : (pointCount nameCount : ℕ) → Reader Part
-patchesBody pointCount nameCount = do ps ← many (patch pointCount nameCount); give (polygons ps 0)
+patchesBody pointCount nameCount = do ps ← many (patch pointCount nameCount); give (polygonList ps 0)
 
 -- LWO2: "U2 with the count in its low ten bits (high six not judged), then VX vertices into the latest PNTS"
 abbrev pub countBits : ℕ → ℕ
@@ -109,7 +116,7 @@ unfoldable pub lwo2Vertices : (pointCount : ℕ) → Reader (List ℕ)
 lwo2Vertices pointCount = do n ← u2 or VertexCount unless (λ n. leb 1 (countBits n)); times (countBits n) (vertex vx pointCount)
 
 unfoldable pub polygon : (pointCount kind : ℕ) → Reader Polygon
-polygon pointCount kind = do vs ← lwo2Vertices pointCount; give (record { kind = kind; surface = 0; vertices = vs })
+polygon pointCount kind = do vs ← lwo2Vertices pointCount; give (polygonOf kind 0 vs)
 
 -- 12: "POLS type neither FACE nor PTCH"
 abbrev pub polygonType : ℕ → Bool
@@ -123,7 +130,7 @@ unfoldable pub polygonsBody : (pointCount : ℕ) → Reader Part
 polygonsBody pointCount = do
   t ← u4 or PolygonType unless polygonType
   ps ← many (polygon pointCount (polygonKind t))
-  give (polygons ps 0)
+  give (polygonList ps 0)
 
 -- PTAG: "Type SURF: pairs of polygon (VX) and tag (U2, from 0) into the latest POLS and the TAGS so far." Surfaces are numbered from 1.
 unfoldable pub pair : (polygonCount nameCount : ℕ) → Reader (ℕ × ℕ)
@@ -137,14 +144,17 @@ unfoldable pub taggingBody : (polygonCount nameCount : ℕ) → Reader Part
 taggingBody polygonCount nameCount = do
   t ← u4
   ps ← if t is "SURF" then many (pair polygonCount nameCount) else unjudged []
-  give (tagging ps)
+  give (tagging t ps)
 
 -- ---- surfaces
 
 -- LWOB: "name, then sub-chunks". LWO2: "name, source string (read, not used), sub-chunks".
-unfoldable pub surfaceName : Kind → Reader Name
-surfaceName LWOB = string
-surfaceName LWO2 = do n ← string; source ← string; give n
+unfoldable pub surfaceStrings : Kind → Reader (Name × Name)
+surfaceStrings LWOB = do n ← string; give (n, [])
+surfaceStrings LWO2 = do n ← string; source ← string; give (n, source)
 
 unfoldable pub surfaceBody : Kind → Reader Part
-surfaceBody kind = do n ← surfaceName kind; vs ← nested surfaceDepth (Surf kind); give (surface n vs)
+surfaceBody kind = do
+  called ← surfaceStrings kind
+  vs ← nested surfaceDepth (Surf kind)
+  give (surface (record { name = called .0; source = called .1; values = vs }))

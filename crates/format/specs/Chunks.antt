@@ -6,7 +6,7 @@ use lib.ListN.{length, take, drop}
 use lib.Dec.{leb, eqb}
 use Rattle.format.specs.declared.Fault.the-variants.{BadHeader, WrongLength}
 use Rattle.format.specs.Bytes.{if_then_else_, between, number, every, all}
-use Rattle.format.specs.Items.{Verdict, fine, fault, _then_, Got, Reader, give, whole}
+use Rattle.format.specs.Items.{Verdict, fine, fault, _andThen_, Got, Reader, give, whole}
 
 pub record Chunk : Type 0 where
   pub tag : ℕ
@@ -57,10 +57,10 @@ link go (fine c) = chunk (c .value .tag) (c .value .body) (go (c .left))
 link go (fault why at) = broken
 
 -- a chunk takes a byte at least, so the length bounds their number
-unfoldable pub split : ℕ → List ℕ → Chunks
+unfoldable pub split : (most : ℕ) → List ℕ → Chunks
 split zero s = finished
-split (suc n) [] = finished
-split (suc n) (b ∷ s) = link (split n) (chunkOf 4 0 (b ∷ s))
+split (suc most) [] = finished
+split (suc most) (b ∷ s) = link (split most) (chunkOf 4 0 (b ∷ s))
 
 unfoldable pub chunks : List ℕ → Chunks
 chunks s = split (length s) s
@@ -70,7 +70,7 @@ chunks s = split (length s) s
 -- A sub-chunk whose body is read as its tag says. As a chunk's, its "tag, length and pad are judged together (4)", before its body: "Sub-chunks likewise."
 -- "sub-chunks tile their parent": many of these.
 unfoldable pub sub : {A : Type 0} → ((tag : ℕ) → Reader A) → Reader A
-sub inside at s = chunkOf 2 at s then λ c. whole at (inside (c .value .tag)) (at + 6) (c .value .body) then λ a. give a (c .next) (c .left)
+sub inside at s = chunkOf 2 at s andThen λ c. whole at (inside (c .value .tag)) (at + 6) (c .value .body) andThen λ a. give a (c .next) (c .left)
 
 abbrev pub fixed : {A : Type 0} → ℕ → Reader A → Reader A
 fixed n r = ofLength 2 (eqb n) r

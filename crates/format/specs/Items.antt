@@ -16,10 +16,10 @@ pub data Verdict (A : Type 0) : Type 0 where
   fine : A → Verdict A
   fault : (why : Fault) (at : ℕ) → Verdict A
 
-infixl 10 _then_
-unfoldable pub _then_ : {A B : Type 0} → Verdict A → (A → Verdict B) → Verdict B
-fine a then f = f a
-fault why at then f = fault why at
+infixl 10 _andThen_
+unfoldable pub _andThen_ : {A B : Type 0} → Verdict A → (A → Verdict B) → Verdict B
+fine a andThen f = f a
+fault why at andThen f = fault why at
 
 -- A reader is given a place and the bytes from there to the end of the body. It gets a value, and the place and the bytes after it.
 -- Places count from the tag of the top-level chunk.
@@ -37,32 +37,32 @@ give a at s = fine (record { value = a; next = at; left = s })
 -- "bytes in order": one item, then what follows it, as in `do x ← r; ..`
 infixl 10 _>>=_
 unfoldable pub _>>=_ : {A B : Type 0} → Reader A → (A → Reader B) → Reader B
-_>>=_ r f at s = r at s then λ g. f (g .value) (g .next) (g .left)
+_>>=_ r f at s = r at s andThen λ g. f (g .value) (g .next) (g .left)
 
 -- "an item that is cut (6) before its value is judged; where one item has several faults, the lower number": of two tests of one item that of the lower number
 -- stands first, a detail's 14 apart.
 infixl 15 _or_unless_
 unfoldable pub _or_unless_ : {A : Type 0} → Reader A → Fault → (A → Bool) → Reader A
-_or_unless_ r why ok at s = r at s then λ g. if ok (g .value) then fine g else fault why at
+_or_unless_ r why ok at s = r at s andThen λ g. if ok (g .value) then fine g else fault why at
 
 -- a body that has to be used up: "bytes left over" are its header's fault
 unfoldable pub whole : {A : Type 0} → (header : ℕ) → Reader A → (at : ℕ) (body : List ℕ) → Verdict A
-whole header r at body = r at body then λ g. if empty (g .left) then fine (g .value) else fault WrongLength header
+whole header r at body = r at body andThen λ g. if empty (g .left) then fine (g .value) else fault WrongLength header
 
 -- an entry, and then more of them
-infixl 12 _and_
-abbrev pub _and_ : {A : Type 0} → Reader A → Reader (List A) → Reader (List A)
-r and more = do x ← r; xs ← more; give (x ∷ xs)
+infixl 12 _followedBy_
+abbrev pub _followedBy_ : {A : Type 0} → Reader A → Reader (List A) → Reader (List A)
+r followedBy more = do x ← r; xs ← more; give (x ∷ xs)
 
 unfoldable pub times : {A : Type 0} → ℕ → Reader A → Reader (List A)
 times zero r = give []
-times (suc n) r = r and times n r
+times (suc n) r = r followedBy times n r
 
 -- as often as the body lasts; an entry takes a byte at least, so the body's length bounds their number
-unfoldable pub upTo : {A : Type 0} → ℕ → Reader A → Reader (List A)
+unfoldable pub upTo : {A : Type 0} → (most : ℕ) → Reader A → Reader (List A)
 upTo zero r at s = give [] at s
-upTo (suc n) r at [] = give [] at []
-upTo (suc n) r at (b ∷ s) = (r and upTo n r) at (b ∷ s)
+upTo (suc most) r at [] = give [] at []
+upTo (suc most) r at (b ∷ s) = (r followedBy upTo most r) at (b ∷ s)
 
 unfoldable pub many : {A : Type 0} → Reader A → Reader (List A)
 many r at s = upTo (length s) r at s

@@ -13,8 +13,8 @@ nameLimit = 255
 abbrev pub lwobVertexLimit : ℕ
 lwobVertexLimit = 200
 
-abbrev pub vertexLimit : ℕ
-vertexLimit = 1023
+abbrev pub lwo2VertexLimit : ℕ
+lwo2VertexLimit = 1023
 
 -- "Points in LWOB: at most 65,536."
 abbrev pub lwobPointLimit : ℕ

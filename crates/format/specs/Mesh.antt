@@ -2,7 +2,7 @@
 use Prim.Native.Nat.{ℕ}
 use mathlib.Core.List.{List, [], _∷_, _++_, map}
 use lib.ListN.{length, getD}
-use Rattle.format.specs.Bytes.{joined, sum, half, one}
+use Rattle.format.specs.Bytes.{joined, sum, f32Half, f32One}
 
 -- "three f32 bit patterns each, in file order"
 pub record Point : Type 0 where
@@ -15,6 +15,10 @@ pub record Polygon : Type 0 where
   pub kind : ℕ
   pub surface : ℕ
   pub vertices : List ℕ
+
+-- a polygon is made here alone
+abbrev pub polygonOf : (kind surface : ℕ) (vertices : List ℕ) → Polygon
+polygonOf kind surface vertices = record { kind = kind; surface = surface; vertices = vertices }
 
 abbrev pub FACE : ℕ
 FACE = 1
@@ -76,7 +80,7 @@ abbrev pub pointFrom : List ℕ → Point
 pointFrom w = record { x = word 0 w; y = word 1 w; z = word 2 w }
 
 abbrev pub polygonFrom : List ℕ → (vertices : List ℕ) → Polygon
-polygonFrom w vertices = record { kind = word 0 w; surface = word 2 w; vertices = vertices }
+polygonFrom w vertices = polygonOf (word 0 w) (word 2 w) vertices
 
 abbrev pub surfaceFrom : List ℕ → Surface
 surfaceFrom w = record {
@@ -95,7 +99,18 @@ surfaceFrom w = record {
 -- "A name with no SURF has defined 0 and LWO2's missing values." "Missing colour is 0.5, 0.5, 0.5 (house)"; "diffuse 1.0, other levels but colour 0,
 -- sides 1".
 abbrev pub missing : Surface
-missing = surfaceFrom (0 ∷ half ∷ half ∷ half ∷ one ∷ 0 ∷ 0 ∷ 0 ∷ 0 ∷ 1 ∷ [])
+missing = record {
+  defined = 0;
+  red = f32Half;
+  green = f32Half;
+  blue = f32Half;
+  diffuse = f32One;
+  luminosity = 0;
+  specular = 0;
+  reflection = 0;
+  transparency = 0;
+  sides = 1;
+}
 
 -- ---- the tables
 

@@ -12,11 +12,11 @@ use Rattle.format.specs.declared.Fault.the-variants.{FileTooLong, NotFor
 use Rattle.format.specs.Bytes.{if_then_else_, _is_, number, all, sum, joined, same}
 use Rattle.format.specs.Limits.{fileLimit}
 use Rattle.format.specs.Refusals.{numberOf, placeOf}
-use Rattle.format.specs.Items.{Verdict, fine, fault, _then_ as _>>=_, Reader, whole}
+use Rattle.format.specs.Items.{Verdict, fine, fault, _andThen_ as _>>=_, Reader, whole}
 use Rattle.format.specs.Chunks.{Chunks, finished, broken, chunk, chunks, sizeOf}
-use Rattle.format.specs.Mesh.{Point, Polygon, Name, Surface, Mesh, missing}
-use Rattle.format.specs.Surfaces.{Value, recordOf}
-use Rattle.format.specs.Bodies.{Part, points, names, polygons, tagging, surface, skipped, pointsBody, namesBody, facesBody, patchesBody, polygonsBody, taggingBody, surfaceBody}
+use Rattle.format.specs.Mesh.{Point, Polygon, polygonOf, Name, Surface, Mesh, missing}
+use Rattle.format.specs.Surfaces.{recordOf}
+use Rattle.format.specs.Bodies.{Part, SurfaceChunk, pointList, nameList, polygonList, tagging, surface, skippedChunk, pointsBody, namesBody, facesBody, patchesBody, polygonsBody, taggingBody, surfaceBody}
 
 -- ---- one chunk
 
@@ -30,12 +30,12 @@ abbrev pub start : Before
 start = record { points = none; polygons = none; names = none }
 
 unfoldable pub after : Before → Part → Before
-after b (points ps) = record { points = some (length ps); polygons = b .polygons; names = b .names }
-after b (names ns) = record { points = b .points; polygons = b .polygons; names = some (length ns) }
-after b (polygons ps n) = record { points = b .points; polygons = some (length ps); names = b .names }
-after b (tagging ts) = b
-after b (surface n vs) = b
-after b skipped = b
+after b (pointList ps) = record { points = some (length ps); polygons = b .polygons; names = b .names }
+after b (nameList ns) = record { points = b .points; polygons = b .polygons; names = some (length ns) }
+after b (polygonList ps n) = record { points = b .points; polygons = some (length ps); names = b .names }
+after b (tagging t ts) = b
+after b (surface s) = b
+after b skippedChunk = b
 
 abbrev pub there : Option ℕ → Bool
 there none = false
@@ -82,9 +82,14 @@ listedTags LWO2 =
 abbrev pub unlistedTag : Kind → (tag : ℕ) → Bool
 unlistedTag kind t = all (λ l. not (t is l .tag)) (listedTags kind)
 
+-- the chunk that holds the names: SRFS in LWOB, TAGS in LWO2
+abbrev pub namesTag : Kind → (tag : ℕ) → Bool
+namesTag LWOB t = t is "SRFS"
+namesTag LWO2 t = t is "TAGS"
+
 -- "Unlisted tags are skipped; top-level ones are counted as skipped."
 abbrev pub judgedBy : List ListedTag → Before → (tag : ℕ) → List ℕ → Verdict Part
-judgedBy [] b t = λ body. fine skipped
+judgedBy [] b t = λ body. fine skippedChunk
 judgedBy (l ∷ ls) b t = if t is l .tag then when l .inOrder b read l .body b else judgedBy ls b t
 
 unfoldable pub judge : Kind → Before → (tag : ℕ) → List ℕ → Verdict Part
@@ -97,14 +102,19 @@ unfoldable pub located : (top : ℕ) → Verdict Part → Verdict Part
 located top (fine part) = fine part
 located top (fault why at) = fault why (placeOf top at)
 
+-- a part, and the place of its chunk's tag
+pub record PartAt : Type 0 where
+  pub place : ℕ
+  pub part : Part
+
 -- "then chunks in file order"
-unfoldable pub walk : Kind → Before → (place : ℕ) → Chunks → Verdict (List Part)
+unfoldable pub walk : Kind → Before → (place : ℕ) → Chunks → Verdict (List PartAt)
 walk kind b place finished = fine []
 walk kind b place broken = fault BadHeader (placeOf place 0)
 walk kind b place (chunk t body rest) = do
   part ← located place (judge kind b t body)
   parts ← walk kind (after b part) (place + sizeOf 4 (length body)) rest
-  fine (part ∷ parts)
+  fine (record { place = place; part = part } ∷ parts)
 
 -- "Order: 1, 2, 3": "file too long"; "under 12 bytes, not FORM, or type neither LWOB nor LWO2"; "FORM length is not file length less 8"
 unfoldable pub kindOf : (type : ℕ) → Verdict Kind
@@ -118,7 +128,7 @@ form s =
       kind ← kindOf (number (take 4 (drop 8 s)))
       if eqb (number (take 4 (drop 4 s)) + 8) (length s) then fine kind else fault FormLength 0)
 
-unfoldable pub judged : List ℕ → Verdict (Kind × List Part)
+unfoldable pub judged : List ℕ → Verdict (Kind × List PartAt)
 judged s = do
   kind ← form s
   parts ← walk kind start 12 (chunks (drop 12 s))
@@ -126,64 +136,95 @@ judged s = do
 
 -- ---- the mesh that the parts of a file make
 
-unfoldable pub pointsOf : Part → List Point
-pointsOf = elim [ points ps ↦ ps | names ns ↦ [] | polygons ps n ↦ [] | tagging ts ↦ [] | surface n vs ↦ [] | skipped ↦ [] ]
+-- what a part adds to the lists and counts of the file
+pub record Added : Type 0 where
+  pub points : List Point
+  pub names : List Name
+  pub surfaces : List SurfaceChunk
+  pub skipped : ℕ
+  pub details : ℕ
 
-unfoldable pub namesOf : Part → List Name
-namesOf = elim [ points ps ↦ [] | names ns ↦ ns | polygons ps n ↦ [] | tagging ts ↦ [] | surface n vs ↦ [] | skipped ↦ [] ]
-
-unfoldable pub surfacesOf : Part → List (Name × List Value)
-surfacesOf = elim [ points ps ↦ [] | names ns ↦ [] | polygons ps n ↦ [] | tagging ts ↦ [] | surface n vs ↦ (n, vs) ∷ [] | skipped ↦ [] ]
+abbrev pub nothingAdded : Added
+nothingAdded = record { points = []; names = []; surfaces = []; skipped = 0; details = 0 }
 
 -- "top-level ones are counted as skipped"
-unfoldable pub skippedOf : Part → ℕ
-skippedOf = elim [ points ps ↦ 0 | names ns ↦ 0 | polygons ps n ↦ 0 | tagging ts ↦ 0 | surface n vs ↦ 0 | skipped ↦ 1 ]
+unfoldable pub added : Part → Added
+added (pointList ps) = record { points = ps; names = []; surfaces = []; skipped = 0; details = 0 }
+added (nameList ns) = record { points = []; names = ns; surfaces = []; skipped = 0; details = 0 }
+added (polygonList ps n) = record { points = []; names = []; surfaces = []; skipped = 0; details = n }
+added (tagging t ts) = nothingAdded
+added (surface s) = record { points = []; names = []; surfaces = s ∷ []; skipped = 0; details = 0 }
+added skippedChunk = record { points = []; names = []; surfaces = []; skipped = 1; details = 0 }
 
-unfoldable pub detailsOf : Part → ℕ
-detailsOf = elim [ points ps ↦ 0 | names ns ↦ 0 | polygons ps n ↦ n | tagging ts ↦ 0 | surface n vs ↦ 0 | skipped ↦ 0 ]
+abbrev pub pointsOf : Part → List Point
+pointsOf part = added part .points
 
--- "the last SURF of a name stands, for the name anywhere in the file; a SURF for an unlisted name is checked and not kept". A name with no SURF keeps what it
--- has `now`.
-unfoldable pub standing : Kind → Name → (now : Surface) → List (Name × List Value) → Surface
-standing kind n now [] = now
-standing kind n now (s ∷ ss) = standing kind n (if same n (s .0) then recordOf kind (s .1) else now) ss
+abbrev pub namesOf : Part → List Name
+namesOf part = added part .names
+
+abbrev pub surfacesOf : Part → List SurfaceChunk
+surfacesOf part = added part .surfaces
+
+abbrev pub skippedOf : Part → ℕ
+skippedOf part = added part .skipped
+
+abbrev pub detailsOf : Part → ℕ
+detailsOf part = added part .details
+
+-- "the last SURF of a name stands, for the name anywhere in the file; a SURF for an unlisted name is checked and not kept": the one that stands after some
+-- more, or none.
+unfoldable pub standing : Name → (now : Option SurfaceChunk) → List SurfaceChunk → Option SurfaceChunk
+standing n now [] = now
+standing n now (s ∷ ss) = standing n (if same n (s .name) then some s else now) ss
+
+-- its record: "A name with no SURF has defined 0 and LWO2's missing values."
+abbrev pub recordFor : Kind → Option SurfaceChunk → Surface
+recordFor kind none = missing
+recordFor kind (some s) = recordOf kind (s .values)
 
 -- "all polygons' point numbers, joined, counted from the file's first point"
 abbrev pub from : (base : ℕ) → Polygon → Polygon
-from base p = record { kind = p .kind; surface = p .surface; vertices = map (λ v. base + v) (p .vertices) }
+from base p = polygonOf (p .kind) (p .surface) (map (λ v. base + v) (p .vertices))
+
+-- a polygon with the number that a tag of a type gives it
+abbrev pub withTag : (type n : ℕ) → Polygon → Polygon
+withTag type n p = if type is "SURF" then polygonOf (p .kind) n (p .vertices) else p
 
 -- "The last tag for a polygon stands (house)."
-unfoldable pub retag : (i n : ℕ) → List Polygon → List Polygon
-retag i n [] = []
-retag zero n (p ∷ ps) = record { kind = p .kind; surface = n; vertices = p .vertices } ∷ ps
-retag (suc i) n (p ∷ ps) = p ∷ retag i n ps
+unfoldable pub retag : (type i n : ℕ) → List Polygon → List Polygon
+retag type i n [] = []
+retag type zero n (p ∷ ps) = withTag type n p ∷ ps
+retag type (suc i) n (p ∷ ps) = p ∷ retag type i n ps
 
-abbrev pub tagged : List Polygon → List (ℕ × ℕ) → List Polygon
-tagged ps ts = foldl (λ now t. retag (t .0) (t .1) now) ps ts
+abbrev pub tagged : List Polygon → (type : ℕ) → List (ℕ × ℕ) → List Polygon
+tagged ps type ts = foldl (λ now t. retag type (t .0) (t .1) now) ps ts
 
 -- The latest point list starts after `base` points and ends at `end`. The polygons of the latest POLS are held back for the PTAGs after it.
 unfoldable pub polygonsIn : (base end : ℕ) (latest : List Polygon) → List Part → List Polygon
 polygonsIn base end latest [] = latest
-polygonsIn base end latest (points ps ∷ rest) = polygonsIn end (end + length ps) latest rest
-polygonsIn base end latest (names ns ∷ rest) = polygonsIn base end latest rest
-polygonsIn base end latest (polygons ps n ∷ rest) = latest ++ polygonsIn base end (map (from base) ps) rest
-polygonsIn base end latest (tagging ts ∷ rest) = polygonsIn base end (tagged latest ts) rest
-polygonsIn base end latest (surface n vs ∷ rest) = polygonsIn base end latest rest
-polygonsIn base end latest (skipped ∷ rest) = polygonsIn base end latest rest
+polygonsIn base end latest (pointList ps ∷ rest) = polygonsIn end (end + length ps) latest rest
+polygonsIn base end latest (nameList ns ∷ rest) = polygonsIn base end latest rest
+polygonsIn base end latest (polygonList ps n ∷ rest) = latest ++ polygonsIn base end (map (from base) ps) rest
+polygonsIn base end latest (tagging t ts ∷ rest) = polygonsIn base end (tagged latest t ts) rest
+polygonsIn base end latest (surface s ∷ rest) = polygonsIn base end latest rest
+polygonsIn base end latest (skippedChunk ∷ rest) = polygonsIn base end latest rest
 
 unfoldable pub meshOf : Kind → List Part → Mesh
 meshOf kind parts =
     let ns = joined (map namesOf parts) in
     let ss = joined (map surfacesOf parts) in
-    record { points = joined (map pointsOf parts); polygons = polygonsIn 0 0 [] parts; names = ns; surfaces = map (λ n. standing kind n missing ss) ns }
+    record { points = joined (map pointsOf parts); polygons = polygonsIn 0 0 [] parts; names = ns; surfaces = map (λ n. recordFor kind (standing n none ss)) ns }
 
 -- "The rules give a file a mesh exactly when none of the file reader's refusals but 16 applies to it."
 pub data Outcome : Type 0 where
   refused : (number place : ℕ) → Outcome
   gives : Mesh → (skipped details : ℕ) → Outcome
 
-unfoldable pub outcome : Verdict (Kind × List Part) → Outcome
-outcome (fine f) = gives (meshOf (f .0) (f .1)) (sum (map skippedOf (f .1))) (sum (map detailsOf (f .1)))
+abbrev pub partsOf : List PartAt → List Part
+partsOf ps = map (λ p. p .part) ps
+
+unfoldable pub outcome : Verdict (Kind × List PartAt) → Outcome
+outcome (fine f) = gives (meshOf (f .0) (partsOf (f .1))) (sum (map skippedOf (partsOf (f .1)))) (sum (map detailsOf (partsOf (f .1))))
 outcome (fault why at) = refused (numberOf why) at
 
 unfoldable pub rules : List ℕ → Outcome

@@ -10,7 +10,7 @@ use Rattle.format.specs.declared.Kind.the-variants.{LWOB, LWO2}
 use Rattle.format.specs.declared.Container.{Container}
 use Rattle.format.specs.declared.Container.the-variants.{Surf, Blok, Attributes}
 use Rattle.format.specs.declared.Fault.the-variants.{SurfaceValue}
-use Rattle.format.specs.Bytes.{if_then_else_, _is_, over255, over256, one, empty, joined}
+use Rattle.format.specs.Bytes.{if_then_else_, _is_, over255, over256, f32One, empty, joined}
 use Rattle.format.specs.Items.{fault, Reader, _>>=_, give, _or_unless_, many, item, u2, i2, float, vx, string}
 use Rattle.format.specs.Chunks.{headerOf, sub, fixed, unjudged}
 use Rattle.format.specs.Mesh.{Surface, missing}
@@ -27,8 +27,8 @@ value t words = record { tag = t; words = words } ∷ []
 abbrev pub unlisted : Reader (List Value)
 unlisted = unjudged []
 
-abbrev pub level : ℕ → Bool
-level t = t is "LUMI" || t is "DIFF" || t is "SPEC" || t is "REFL" || t is "TRAN"
+abbrev pub levelTag : ℕ → Bool
+levelTag t = t is "LUMI" || t is "DIFF" || t is "SPEC" || t is "REFL" || t is "TRAN"
 
 -- ---- LWOB
 
@@ -54,7 +54,7 @@ flags t = fixed 2 (do n ← u2; give (value t (n ∷ [])))
 unfoldable pub lwobValue : (tag : ℕ) → Reader (List Value)
 lwobValue t =
     if t is "COLR" then byteColour t
-    else if level t then shortLevel t
+    else if levelTag t then shortLevel t
     else if floatLevel t then longLevel t
     else if t is "FLAG" then flags t
     else unlisted
@@ -79,7 +79,7 @@ side t = fixed 2 (do n ← u2 or SurfaceValue unless sideNumber; give (value t (
 unfoldable pub lwo2Value : (tag : ℕ) → Reader (List Value)
 lwo2Value t =
     if t is "COLR" then floatColour t
-    else if level t then envelopedLevel t
+    else if levelTag t then envelopedLevel t
     else if t is "SIDE" then side t
     else unlisted
 
@@ -123,9 +123,13 @@ surfaceDepth = 3
 -- ---- the record
 
 -- "a repeated sub-chunk's last value stands": word i of the last value with that tag, or `now` where there is none
-unfoldable pub last : List Value → (tag : String) (i now : ℕ) → ℕ
-last [] tag i now = now
-last (v ∷ vs) tag i now = last vs tag i (if v .tag is tag then getD (v .words) i now else now)
+unfoldable pub lastOf : List Value → (tag : String) (i now : ℕ) → ℕ
+lastOf [] tag i now = now
+lastOf (v ∷ vs) tag i now = lastOf vs tag i (if v .tag is tag then getD (v .words) i now else now)
+
+-- the only word of the last value
+abbrev pub lastWord : List Value → (tag : String) (now : ℕ) → ℕ
+lastWord vs tag now = lastOf vs tag 0 now
 
 abbrev pub bit : ℕ → ℕ → Bool
 bit i n = eqb (n / 2 ^ i % 2) 1
@@ -135,25 +139,25 @@ bit i n = eqb (n / 2 ^ i % 2) 1
 unfoldable pub recordOf : Kind → List Value → Surface
 recordOf LWOB vs = record {
   defined = 1;
-  red = last vs "COLR" 0 (missing .red);
-  green = last vs "COLR" 1 (missing .green);
-  blue = last vs "COLR" 2 (missing .blue);
-  diffuse = last vs "VDIF" 0 (last vs "DIFF" 0 0);
-  luminosity = last vs "VLUM" 0 (last vs "LUMI" 0 (if bit 0 (last vs "FLAG" 0 0) then one else 0));
-  specular = last vs "VSPC" 0 (last vs "SPEC" 0 0);
-  reflection = last vs "VRFL" 0 (last vs "REFL" 0 0);
-  transparency = last vs "VTRN" 0 (last vs "TRAN" 0 0);
-  sides = if bit 8 (last vs "FLAG" 0 0) then 3 else 1;
+  red = lastOf vs "COLR" 0 (missing .red);
+  green = lastOf vs "COLR" 1 (missing .green);
+  blue = lastOf vs "COLR" 2 (missing .blue);
+  diffuse = lastWord vs "VDIF" (lastWord vs "DIFF" 0);
+  luminosity = lastWord vs "VLUM" (lastWord vs "LUMI" (if bit 0 (lastWord vs "FLAG" 0) then f32One else 0));
+  specular = lastWord vs "VSPC" (lastWord vs "SPEC" 0);
+  reflection = lastWord vs "VRFL" (lastWord vs "REFL" 0);
+  transparency = lastWord vs "VTRN" (lastWord vs "TRAN" 0);
+  sides = if bit 8 (lastWord vs "FLAG" 0) then 3 else 1;
 }
 recordOf LWO2 vs = record {
   defined = 1;
-  red = last vs "COLR" 0 (missing .red);
-  green = last vs "COLR" 1 (missing .green);
-  blue = last vs "COLR" 2 (missing .blue);
-  diffuse = last vs "DIFF" 0 (missing .diffuse);
-  luminosity = last vs "LUMI" 0 (missing .luminosity);
-  specular = last vs "SPEC" 0 (missing .specular);
-  reflection = last vs "REFL" 0 (missing .reflection);
-  transparency = last vs "TRAN" 0 (missing .transparency);
-  sides = last vs "SIDE" 0 (missing .sides);
+  red = lastOf vs "COLR" 0 (missing .red);
+  green = lastOf vs "COLR" 1 (missing .green);
+  blue = lastOf vs "COLR" 2 (missing .blue);
+  diffuse = lastWord vs "DIFF" (missing .diffuse);
+  luminosity = lastWord vs "LUMI" (missing .luminosity);
+  specular = lastWord vs "SPEC" (missing .specular);
+  reflection = lastWord vs "REFL" (missing .reflection);
+  transparency = lastWord vs "TRAN" (missing .transparency);
+  sides = lastWord vs "SIDE" (missing .sides);
 }

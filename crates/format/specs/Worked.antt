@@ -10,12 +10,12 @@ use lib.Dec.{leb}
 use Rattle.format.specs.declared.Kind.the-variants.{LWOB}
 use Rattle.format.specs.Bytes.{if_then_else_, absolute, negative, spelt, number, finite, over255, over256, every, all, sum, joined, same, amongst}
 use Rattle.format.specs.Refusals.{numberOf}
-use Rattle.format.specs.Items.{Verdict, fine, fault, Got, _then_, _>>=_, _or_unless_, whole, times, upTo, many, item, uint, i2, float, vx, toZero, string}
+use Rattle.format.specs.Items.{Verdict, fine, fault, Got, _andThen_, _>>=_, _or_unless_, whole, times, upTo, many, item, uint, i2, float, vx, toZero, string}
 use Rattle.format.specs.Chunks.{sizeOf, lengthOf, wellFormed, chunkOf, ofLength, link, split, chunks, sub, unjudged}
-use Rattle.format.specs.Mesh.{Mesh, missing}
-use Rattle.format.specs.Surfaces.{lwobValue, lwo2Value, attribute, blockHeader, block, held, nested, last, recordOf}
-use Rattle.format.specs.Bodies.{point, wholePoints, pointsBody, name, namesAfter, namesBody, lwobVertices, detail, details, detailsAfter, face, facesBody, patch, patchesBody, lwo2Vertices, polygon, polygonsBody, pair, taggingBody, surfaceName, surfaceBody}
-use Rattle.format.specs.Rules.{Outcome, refused, gives, after, when_read_, judge, located, walk, kindOf, form, judged, pointsOf, namesOf, surfacesOf, skippedOf, detailsOf, standing, retag, polygonsIn, meshOf, outcome, rules}
+use Rattle.format.specs.Mesh.{Mesh, polygonOf, FACE, missing}
+use Rattle.format.specs.Surfaces.{lwobValue, lwo2Value, attribute, blockHeader, block, held, nested, lastOf, recordOf}
+use Rattle.format.specs.Bodies.{point, wholePoints, pointsBody, name, namesAfter, namesBody, lwobVertices, detail, details, detailsAfter, face, facesBody, patch, patchesBody, lwo2Vertices, polygon, polygonsBody, pair, taggingBody, surfaceStrings, surfaceBody}
+use Rattle.format.specs.Rules.{Outcome, refused, gives, after, when_read_, judge, located, walk, kindOf, form, judged, added, standing, retag, polygonsIn, meshOf, outcome, rules}
 use Rattle.format.specs.Canonical.{bytes, vxBytes, stringBytes, chunkBytes, polygonBytes, pairsOf, pairBytes, levelBytes, surfaceBytes, ahead, runs, unlessEmpty, runChunks, surfaceChunks, canonicalChunks, formBytes, canonical}
 
 -- bytes, as the table writes them
@@ -70,7 +70,7 @@ case-l =
 mesh-l : Mesh
 mesh-l = record {
   points = record { x = 0; y = 0; z = 0 } ∷ record { x = 0x3f80_0000; y = 0; z = 0 } ∷ record { x = 0; y = 0x4000_0000; z = 0 } ∷ [];
-  polygons = record { kind = 1; surface = 1; vertices = 0 ∷ 1 ∷ 2 ∷ [] } ∷ [];
+  polygons = polygonOf FACE 1 (0 ∷ 1 ∷ 2 ∷ []) ∷ [];
   names = spelt "Oak" ∷ [];
   surfaces = missing ∷ [];
 }
@@ -94,5 +94,5 @@ table =
     ∷ []
 
 worked : map (λ c. run (c .0)) table ≡ map (λ c. c .1) table
-unfolding digit pairs hex result run nothing case-l mesh-l table number finite over255 over256 every all sum joined same amongst numberOf _then_ _>>=_ _or_unless_ whole times upTo many item uint i2 float vx toZero string sizeOf lengthOf wellFormed chunkOf ofLength link split chunks sub unjudged lwobValue lwo2Value attribute blockHeader block held nested last recordOf point wholePoints pointsBody name namesAfter namesBody lwobVertices detail details detailsAfter face facesBody patch patchesBody lwo2Vertices polygon polygonsBody pair taggingBody surfaceName surfaceBody after when_read_ judge located walk kindOf form judged pointsOf namesOf surfacesOf skippedOf detailsOf standing retag polygonsIn meshOf outcome rules bytes vxBytes stringBytes chunkBytes polygonBytes pairsOf pairBytes levelBytes surfaceBytes ahead runs unlessEmpty runChunks surfaceChunks canonicalChunks formBytes canonical
+unfolding digit pairs hex result run nothing case-l mesh-l table number finite over255 over256 every all sum joined same amongst numberOf _andThen_ _>>=_ _or_unless_ whole times upTo many item uint i2 float vx toZero string sizeOf lengthOf wellFormed chunkOf ofLength link split chunks sub unjudged lwobValue lwo2Value attribute blockHeader block held nested lastOf recordOf point wholePoints pointsBody name namesAfter namesBody lwobVertices detail details detailsAfter face facesBody patch patchesBody lwo2Vertices polygon polygonsBody pair taggingBody surfaceStrings surfaceBody after when_read_ judge located walk kindOf form judged added standing retag polygonsIn meshOf outcome rules bytes vxBytes stringBytes chunkBytes polygonBytes pairsOf pairBytes levelBytes surfaceBytes ahead runs unlessEmpty runChunks surfaceChunks canonicalChunks formBytes canonical
 worked = refl

@@ -6,7 +6,7 @@ use mathlib.Core.Bool.{Bool, true, not, _&&_, _||_}
 use lib.ListN.{length, take, drop, replicate}
 use lib.Dec.{leb, ltb, eqb}
 use Rattle.format.specs.Bytes.{if_then_else_, between, finite, every, all, sum, same}
-use Rattle.format.specs.Limits.{fileLimit, vertexLimit, entryLimit, surfaceLimit}
+use Rattle.format.specs.Limits.{fileLimit, lwo2VertexLimit, entryLimit, surfaceLimit}
 use Rattle.format.specs.Refusals.{noRoom, notMesh, tooLong}
 use Rattle.format.specs.Mesh.{Point, Polygon, FACE, PATCH, Surface, Name, Mesh, missing, Tables, pointWords, levels, surfaceWords, pointSize, polygonSize, recordSize, word, pointFrom, polygonFrom, surfaceFrom}
 use Rattle.format.specs.Surfaces.{sideNumber}
@@ -51,7 +51,7 @@ unfoldable pub goodPolygon : (pointCount nameCount : ℕ) → Polygon → Bool
 goodPolygon pointCount nameCount p =
     every
     (between FACE PATCH (p .kind)
-    ∷ between 1 vertexLimit (length (p .vertices))
+    ∷ between 1 lwo2VertexLimit (length (p .vertices))
     ∷ all (λ v. ltb v pointCount) (p .vertices)
     ∷ leb (p .surface) nameCount
     ∷ leb (p .surface) surfaceLimit

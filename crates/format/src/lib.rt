@@ -1,5 +1,14 @@
 // The rules of document 01 as definitions: see specs/. Code and rules share these types.
 
+pub mod tags;
+
+// The words of an entry in the tables of points, polygons and records.
+pub const POINT_WORDS: usize = 3;
+
+pub const POLYGON_WORDS: usize = 3;
+
+pub const RECORD_WORDS: usize = 10;
+
 // The two kinds of file.
 pub enum Kind {
     LWOB,

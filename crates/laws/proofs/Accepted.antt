@@ -3,6 +3,7 @@ use Prim.Native.Nat.{ℕ, zero, suc, _+_, _≤_, _<_}
 use Prim.Native.String.{String}
 use mathlib.Core.Path.{_≡_, refl, sym, ap, _∙_}
 use mathlib.Core.List.{List, [], _∷_, _++_, map, append-nil}
+use mathlib.Core.Option.{Option, none, some}
 use mathlib.Core.Bool.{Bool, true, false, not, _&&_, true≢false, and-eq-true-iff}
 use native.Mathlib.Omega.{arith}
 use lib.Dec.{leb, ltb, eqb}
@@ -11,18 +12,19 @@ use borrow.Author.Tests.{leb-true, le-leb, lt-ltb, ltb-true, eq-eqb, eqb-true, n
 use Rattle.format.specs.declared.Kind.{Kind}
 use Rattle.format.specs.declared.Kind.the-variants.{LWOB, LWO2}
 use Rattle.format.specs.declared.Fault.the-variants.{BadHeader}
-use Rattle.format.specs.Bytes.{if_then_else_, _is_, spelt, number, one, byte, between, finite, every, all, joined, same}
+use Rattle.format.specs.Bytes.{if_then_else_, _is_, spelt, number, f32One, byte, between, finite, every, all, joined, same}
 use Rattle.format.specs.Limits.{surfaceLimit}
-use Rattle.format.specs.Items.{Verdict, fine, fault, Got, _then_}
+use Rattle.format.specs.Items.{Verdict, fine, fault, Got, _andThen_}
 use Rattle.format.specs.Chunks.{Chunk, sizeOf, lengthOf, wellFormed, chunkOf, Chunks, finished, broken, chunk, link, split, chunks}
-use Rattle.format.specs.Mesh.{Point, pointWords, Polygon, FACE, PATCH, Name, Surface, missing, levels, surfaceWords, Mesh}
-use Rattle.format.specs.Surfaces.{Value, sideNumber, level, floatLevel, last, bit, recordOf}
-use Rattle.format.specs.Bodies.{Part, points, names, polygons, tagging, surface, skipped}
-use Rattle.format.specs.Rules.{Before, start, after, there, count, walk, pointsOf, namesOf, surfacesOf, standing, from, retag, tagged, polygonsIn, meshOf, gives, rules}
+use Rattle.format.specs.Mesh.{Point, pointWords, Polygon, polygonOf, FACE, PATCH, Name, Surface, missing, levels, surfaceWords, Mesh}
+use Rattle.format.specs.Surfaces.{Value, sideNumber, levelTag, floatLevel, lastOf, bit, recordOf}
+use Rattle.format.specs.Bodies.{Part, SurfaceChunk, pointList, nameList, polygonList, tagging, surface, skippedChunk}
+use Rattle.format.specs.Rules.{added, Before, start, after, there, count, pointsOf, namesOf, surfacesOf, standing, recordFor, from, withTag, retag, tagged, polygonsIn, meshOf, gives, rules}
 use Rattle.format.specs.Written.{goodPolygon, goodNames, goodSurface, goodMesh}
 use Rattle.format.proofs.Facts.{impossible, every-at, all-first, all-rest, all-append-true, all-drop, all-part, between-true}
 use Rattle.format.proofs.Verdicts.{same-fine}
-use Rattle.format.proofs.Walks.{next, accepted}
+use Rattle.format.specs.Contracts.{walkParts}
+use Rattle.format.proofs.ChunkWalk.{parts-finished, parts-broken, next, accepted}
 use Rattle.laws.proofs.GoodPolygons.{GoodPolygon, good-polygon, is-good}
 use Rattle.laws.proofs.Readers.{goodValue, goodPart, part-good}
 
@@ -32,7 +34,7 @@ both p q = rw (p, q)
 -- ---- chunks of bytes
 
 data ByteChunks : Chunks → Type 0 where
-  none : ByteChunks finished
+  at-end : ByteChunks finished
   no-chunk : ByteChunks broken
   more : {t : ℕ} {body : List ℕ} {rest : Chunks} → all byte body ≡ true → ByteChunks rest → ByteChunks (chunk t body rest)
 
@@ -51,8 +53,8 @@ chunk-bytes s e = by (wellFormed 4 s)
 
 split-bytes : (n : ℕ) (s : List ℕ) → all byte s ≡ true → ByteChunks (split n s)
 unfolding split link
-split-bytes zero s e = none
-split-bytes (suc n) [] e = none
+split-bytes zero s e = at-end
+split-bytes (suc n) [] e = at-end
 split-bytes (suc n) (b ∷ s) e = by (chunkOf 4 0 (b ∷ s)) (chunk-bytes (b ∷ s) e) (λ left w. split-bytes n left w)
   where
     by : (v : Verdict (Got Chunk)) → InBytes v → ((left : List ℕ) → all byte left ≡ true → ByteChunks (split n left)) → ByteChunks (link (split n) v)
@@ -65,10 +67,9 @@ data GoodParts (kind : Kind) : Before → List Part → Type 0 where
   no-more : {b : Before} → GoodParts kind b []
   one-more : {b : Before} {part : Part} {parts : List Part} → goodPart kind b part ≡ true → GoodParts kind (after b part) parts → GoodParts kind b (part ∷ parts)
 
-walk-good : (kind : Kind) (b : Before) (place : ℕ) {cs : Chunks} → ByteChunks cs → (parts : List Part) → walk kind b place cs ≡ fine parts → GoodParts kind b parts
-unfolding walk
-walk-good kind b place none parts e = rw (← same-fine e) no-more
-walk-good kind b place no-chunk parts e = impossible cc
+walk-good : (kind : Kind) (b : Before) (place : ℕ) {cs : Chunks} → ByteChunks cs → (parts : List Part) → walkParts kind b place cs ≡ fine parts → GoodParts kind b parts
+walk-good kind b place at-end parts e = rw (← same-fine (sym (parts-finished kind b place) ∙ e)) no-more
+walk-good kind b place no-chunk parts e = let bad = sym (parts-broken kind b place) ∙ e in impossible cc
 walk-good kind b place (more {t = t} {body = body} {rest = rest} bytes later) parts e =
     let x = next kind b place t body rest parts e in
     rw (← x .both) (one-more (part-good kind b t body bytes (x .here)) (walk-good kind (after b (x .part)) _ later (x .later) (x .onward)))
@@ -76,35 +77,35 @@ walk-good kind b place (more {t = t} {body = body} {rest = rest} bytes later) pa
 -- ---- points and names
 
 points-good : {kind : Kind} {b : Before} {parts : List Part} → GoodParts kind b parts → all (λ p. all finite (pointWords p)) (joined (map pointsOf parts)) ≡ true
-unfolding joined pointsOf all
+unfolding joined added all
 points-good no-more = refl
-points-good (one-more {part = points ps} g gs) = all-append-true _ ps _ g (points-good gs)
-points-good (one-more {part = names ns} g gs) = points-good gs
-points-good (one-more {part = polygons ps n} g gs) = points-good gs
-points-good (one-more {part = tagging ts} g gs) = points-good gs
-points-good (one-more {part = surface n vs} g gs) = points-good gs
-points-good (one-more {part = skipped} g gs) = points-good gs
+points-good (one-more {part = pointList ps} g gs) = all-append-true _ ps _ g (points-good gs)
+points-good (one-more {part = nameList ns} g gs) = points-good gs
+points-good (one-more {part = polygonList ps n} g gs) = points-good gs
+points-good (one-more {part = tagging t ts} g gs) = points-good gs
+points-good (one-more {part = surface s} g gs) = points-good gs
+points-good (one-more {part = skippedChunk} g gs) = points-good gs
 
 -- names come once
 no-more-names : {kind : Kind} {b : Before} {parts : List Part} → GoodParts kind b parts → there (b .names) ≡ true → joined (map namesOf parts) ≡ []
-unfolding joined namesOf after
+unfolding joined added after
 no-more-names no-more e = refl
-no-more-names (one-more {part = points ps} g gs) e = no-more-names gs e
-no-more-names (one-more {b = b} {part = names ns} g gs) e = absurd (true≢false (sym e ∙ not-true (there (b .names)) (and-eq-true-iff (not (there (b .names))) (goodNames [] ns) .0 g .0)))
-no-more-names (one-more {part = polygons ps n} g gs) e = no-more-names gs e
-no-more-names (one-more {part = tagging ts} g gs) e = no-more-names gs e
-no-more-names (one-more {part = surface n vs} g gs) e = no-more-names gs e
-no-more-names (one-more {part = skipped} g gs) e = no-more-names gs e
+no-more-names (one-more {part = pointList ps} g gs) e = no-more-names gs e
+no-more-names (one-more {b = b} {part = nameList ns} g gs) e = absurd (true≢false (sym e ∙ not-true (there (b .names)) (and-eq-true-iff (not (there (b .names))) (goodNames [] ns) .0 g .0)))
+no-more-names (one-more {part = polygonList ps n} g gs) e = no-more-names gs e
+no-more-names (one-more {part = tagging t ts} g gs) e = no-more-names gs e
+no-more-names (one-more {part = surface s} g gs) e = no-more-names gs e
+no-more-names (one-more {part = skippedChunk} g gs) e = no-more-names gs e
 
 names-good : {kind : Kind} {b : Before} {parts : List Part} → GoodParts kind b parts → goodNames [] (joined (map namesOf parts)) ≡ true
-unfolding joined namesOf goodNames after
+unfolding joined added goodNames after
 names-good no-more = refl
-names-good (one-more {part = points ps} g gs) = names-good gs
-names-good (one-more {b = b} {part = names ns} g gs) = rw (no-more-names gs refl, append-nil ns) (and-eq-true-iff (not (there (b .names))) (goodNames [] ns) .0 g .1)
-names-good (one-more {part = polygons ps n} g gs) = names-good gs
-names-good (one-more {part = tagging ts} g gs) = names-good gs
-names-good (one-more {part = surface n vs} g gs) = names-good gs
-names-good (one-more {part = skipped} g gs) = names-good gs
+names-good (one-more {part = pointList ps} g gs) = names-good gs
+names-good (one-more {b = b} {part = nameList ns} g gs) = rw (no-more-names gs refl, append-nil ns) (and-eq-true-iff (not (there (b .names))) (goodNames [] ns) .0 g .1)
+names-good (one-more {part = polygonList ps n} g gs) = names-good gs
+names-good (one-more {part = tagging t ts} g gs) = names-good gs
+names-good (one-more {part = surface s} g gs) = names-good gs
+names-good (one-more {part = skippedChunk} g gs) = names-good gs
 
 -- ---- polygons
 
@@ -134,40 +135,47 @@ module _ (P N : ℕ) where
   all-moved base pointCount nameCount (p ∷ ps) l few e =
       both (moved base pointCount nameCount p l few (all-first (goodPolygon pointCount nameCount) p ps e)) (all-moved base pointCount nameCount ps l few (all-rest (goodPolygon pointCount nameCount) p ps e))
 
-  retag-good : (i n : ℕ) (ps : List Polygon) → n ≤ N → n ≤ surfaceLimit → all (goodPolygon P N) ps ≡ true → all (goodPolygon P N) (retag i n ps) ≡ true
-  unfolding retag all
-  retag-good i n [] few small e = refl
-  retag-good zero n (p ∷ ps) few small e =
-      let g = good-polygon P N p (all-first (goodPolygon P N) p ps e) in
-      both (is-good {p = record { kind = p .kind; surface = n; vertices = p .vertices }} (record { kinds = g .kinds; count = g .count; vertices = g .vertices; named = few; numbered = small })) (all-rest (goodPolygon P N) p ps e)
-  retag-good (suc i) n (p ∷ ps) few small e = both (all-first (goodPolygon P N) p ps e) (retag-good i n ps few small (all-rest (goodPolygon P N) p ps e))
+  tag-good : (type n : ℕ) (p : Polygon) → n ≤ N → n ≤ surfaceLimit → goodPolygon P N p ≡ true → goodPolygon P N (withTag type n p) ≡ true
+  tag-good type n p few small e = by (type is "SURF")
+    where
+      by : (b : Bool) → goodPolygon P N (if b then polygonOf (p .kind) n (p .vertices) else p) ≡ true
+      by true =
+          let g = good-polygon P N p e in
+          is-good {p = polygonOf (p .kind) n (p .vertices)} (record { kinds = g .kinds; count = g .count; vertices = g .vertices; named = few; numbered = small })
+      by false = e
 
-  tagged-good : (nameCount : ℕ) (ts : List (ℕ × ℕ)) (ps : List Polygon) → nameCount ≤ N → all (λ t. between 1 nameCount (t .1) && leb (t .1) surfaceLimit) ts ≡ true → all (goodPolygon P N) ps ≡ true
-      → all (goodPolygon P N) (tagged ps ts) ≡ true
-  tagged-good nameCount [] ps few e g = g
-  tagged-good nameCount (t ∷ ts) ps few e g =
+  retag-good : (type i n : ℕ) (ps : List Polygon) → n ≤ N → n ≤ surfaceLimit → all (goodPolygon P N) ps ≡ true → all (goodPolygon P N) (retag type i n ps) ≡ true
+  unfolding retag all
+  retag-good type i n [] few small e = refl
+  retag-good type zero n (p ∷ ps) few small e = both (tag-good type n p few small (all-first (goodPolygon P N) p ps e)) (all-rest (goodPolygon P N) p ps e)
+  retag-good type (suc i) n (p ∷ ps) few small e = both (all-first (goodPolygon P N) p ps e) (retag-good type i n ps few small (all-rest (goodPolygon P N) p ps e))
+
+  tagged-good : (type nameCount : ℕ) (ts : List (ℕ × ℕ)) (ps : List Polygon) → nameCount ≤ N → all (λ t. between 1 nameCount (t .1) && leb (t .1) surfaceLimit) ts ≡ true → all (goodPolygon P N) ps ≡ true
+      → all (goodPolygon P N) (tagged ps type ts) ≡ true
+  tagged-good type nameCount [] ps few e g = g
+  tagged-good type nameCount (t ∷ ts) ps few e g =
       let here = and-eq-true-iff (between 1 nameCount (t .1)) (leb (t .1) surfaceLimit) .0 (all-first (λ (t : ℕ × ℕ). between 1 nameCount (t .1) && leb (t .1) surfaceLimit) t ts e) in
       let range = between-true 1 nameCount (t .1) (here .0) in
-      tagged-good nameCount ts (retag (t .0) (t .1) ps) few (all-rest (λ (t : ℕ × ℕ). between 1 nameCount (t .1) && leb (t .1) surfaceLimit) t ts e)
-      (retag-good (t .0) (t .1) ps (omega arith) (leb-true (t .1) surfaceLimit (here .1)) g)
+      tagged-good type nameCount ts (retag type (t .0) (t .1) ps) few (all-rest (λ (t : ℕ × ℕ). between 1 nameCount (t .1) && leb (t .1) surfaceLimit) t ts e)
+      (retag-good type (t .0) (t .1) ps (omega arith) (leb-true (t .1) surfaceLimit (here .1)) g)
 
   -- The latest points start after `base` others and are all before `end`; what the later parts add comes behind.
   polygons-good : {kind : Kind} {b : Before} {parts : List Part} → GoodParts kind b parts → (base end : ℕ) (latest : List Polygon) → base + count (b .points) ≤ end
       → end + length (joined (map pointsOf parts)) ≤ P → count (b .names) + length (joined (map namesOf parts)) ≤ N → all (goodPolygon P N) latest ≡ true
       → all (goodPolygon P N) (polygonsIn base end latest parts) ≡ true
-  unfolding polygonsIn joined pointsOf namesOf after
+  unfolding polygonsIn joined added after
   polygons-good no-more base end latest l points-in names-in g = g
-  polygons-good (one-more {part = points ps} {parts = parts} h gs) base end latest l points-in names-in g =
+  polygons-good (one-more {part = pointList ps} {parts = parts} h gs) base end latest l points-in names-in g =
       polygons-good gs end (end + length ps) latest (omega arith) (omega (arith, length-append ps (joined (map pointsOf parts)))) names-in g
-  polygons-good (one-more {part = names ns} {parts = parts} h gs) base end latest l points-in names-in g =
+  polygons-good (one-more {part = nameList ns} {parts = parts} h gs) base end latest l points-in names-in g =
       polygons-good gs base end latest l points-in (omega (arith, length-append ns (joined (map namesOf parts)))) g
-  polygons-good (one-more {b = b} {part = polygons ps n} h gs) base end latest l points-in names-in g =
+  polygons-good (one-more {b = b} {part = polygonList ps n} h gs) base end latest l points-in names-in g =
       all-append-true (goodPolygon P N) latest _ g
       (polygons-good gs base end (map (from base) ps) l points-in names-in (all-moved base (count (b .points)) (count (b .names)) ps (omega arith) (omega arith) h))
-  polygons-good (one-more {b = b} {part = tagging ts} h gs) base end latest l points-in names-in g =
-      polygons-good gs base end (tagged latest ts) l points-in names-in (tagged-good (count (b .names)) ts latest (omega arith) h g)
-  polygons-good (one-more {part = surface n vs} h gs) base end latest l points-in names-in g = polygons-good gs base end latest l points-in names-in g
-  polygons-good (one-more {part = skipped} h gs) base end latest l points-in names-in g = polygons-good gs base end latest l points-in names-in g
+  polygons-good (one-more {b = b} {part = tagging t ts} h gs) base end latest l points-in names-in g =
+      polygons-good gs base end (tagged latest t ts) l points-in names-in (tagged-good t (count (b .names)) ts latest (omega arith) h g)
+  polygons-good (one-more {part = surface s} h gs) base end latest l points-in names-in g = polygons-good gs base end latest l points-in names-in g
+  polygons-good (one-more {part = skippedChunk} h gs) base end latest l points-in names-in g = polygons-good gs base end latest l points-in names-in g
 
 -- ---- surfaces
 
@@ -178,8 +186,8 @@ getD-good p (w ∷ ws) (suc i) now e g = getD-good p ws i now (all-rest p w ws e
 
 -- the last value with a tag passes a test that all values with that tag pass
 last-good : (kind : Kind) (p : ℕ → Bool) (tag : String) → ((v : Value) → v .tag is tag ≡ true → goodValue kind v ≡ true → all p (v .words) ≡ true)
-    → (vs : List Value) (i now : ℕ) → all (goodValue kind) vs ≡ true → p now ≡ true → p (last vs tag i now) ≡ true
-unfolding last
+    → (vs : List Value) (i now : ℕ) → all (goodValue kind) vs ≡ true → p now ≡ true → p (lastOf vs tag i now) ≡ true
+unfolding lastOf
 last-good kind p tag passes [] i now e g = g
 last-good kind p tag passes (v ∷ vs) i now e g = last-good kind p tag passes vs i (if v .tag is tag then getD (v .words) i now else now) (all-rest (goodValue kind) v vs e) (by (v .tag is tag) refl)
   where
@@ -200,7 +208,7 @@ good-record s defined floats sides = rw (defined, sides, floats)
 
 module _ (vs : List Value) where
   module _ (e : all (goodValue LWO2) vs ≡ true) where
-    lwo2-level : (tag : String) → ((ws : List ℕ) → goodValue LWO2 (record { tag = number (spelt tag); words = ws }) ≡ all finite ws) → (i now : ℕ) → finite now ≡ true → finite (last vs tag i now) ≡ true
+    lwo2-level : (tag : String) → ((ws : List ℕ) → goodValue LWO2 (record { tag = number (spelt tag); words = ws }) ≡ all finite ws) → (i now : ℕ) → finite now ≡ true → finite (lastOf vs tag i now) ≡ true
     lwo2-level tag same i now g = last-good LWO2 finite tag (by-tag LWO2 finite tag same) vs i now e g
 
     lwo2-record : goodSurface (recordOf LWO2 vs) ≡ true
@@ -218,10 +226,10 @@ module _ (vs : List Value) where
         (last-good LWO2 sideNumber "SIDE" (by-tag LWO2 sideNumber "SIDE" (λ ws. refl)) vs 0 (missing .sides) e refl)
 
   module _ (e : all (goodValue LWOB) vs ≡ true) where
-    lwob-level : (tag : String) → ((ws : List ℕ) → goodValue LWOB (record { tag = number (spelt tag); words = ws }) ≡ all finite ws) → (i now : ℕ) → finite now ≡ true → finite (last vs tag i now) ≡ true
+    lwob-level : (tag : String) → ((ws : List ℕ) → goodValue LWOB (record { tag = number (spelt tag); words = ws }) ≡ all finite ws) → (i now : ℕ) → finite now ≡ true → finite (lastOf vs tag i now) ≡ true
     lwob-level tag same i now g = last-good LWOB finite tag (by-tag LWOB finite tag same) vs i now e g
 
-    lit : (x : Bool) → finite (if x then one else 0) ≡ true
+    lit : (x : Bool) → finite (if x then f32One else 0) ≡ true
     unfolding finite
     lit true = refl
     lit false = refl
@@ -238,11 +246,11 @@ module _ (vs : List Value) where
         (both (lwob-level "COLR" (λ ws. refl) 1 (missing .green) refl)
         (both (lwob-level "COLR" (λ ws. refl) 2 (missing .blue) refl)
         (both (lwob-level "VDIF" (λ ws. refl) 0 _ (lwob-level "DIFF" (λ ws. refl) 0 0 refl))
-        (both (lwob-level "VLUM" (λ ws. refl) 0 _ (lwob-level "LUMI" (λ ws. refl) 0 _ (lit (bit 0 (last vs "FLAG" 0 0)))))
+        (both (lwob-level "VLUM" (λ ws. refl) 0 _ (lwob-level "LUMI" (λ ws. refl) 0 _ (lit (bit 0 (lastOf vs "FLAG" 0 0)))))
         (both (lwob-level "VSPC" (λ ws. refl) 0 _ (lwob-level "SPEC" (λ ws. refl) 0 0 refl))
         (both (lwob-level "VRFL" (λ ws. refl) 0 _ (lwob-level "REFL" (λ ws. refl) 0 0 refl))
         (both (lwob-level "VTRN" (λ ws. refl) 0 _ (lwob-level "TRAN" (λ ws. refl) 0 0 refl)) refl))))))))
-        (two-sides (bit 8 (last vs "FLAG" 0 0)))
+        (two-sides (bit 8 (lastOf vs "FLAG" 0 0)))
 
 record-good : (kind : Kind) (vs : List Value) → all (goodValue kind) vs ≡ true → goodSurface (recordOf kind vs) ≡ true
 record-good LWOB vs e = lwob-record vs e
@@ -250,34 +258,36 @@ record-good LWO2 vs e = lwo2-record vs e
 
 -- ---- the surfaces of a file
 
-surfaces-good : {kind : Kind} {b : Before} {parts : List Part} → GoodParts kind b parts → all (λ s. all (goodValue kind) (s .1)) (joined (map surfacesOf parts)) ≡ true
-unfolding joined surfacesOf all
+surfaces-good : {kind : Kind} {b : Before} {parts : List Part} → GoodParts kind b parts → all (λ s. all (goodValue kind) (s .values)) (joined (map surfacesOf parts)) ≡ true
+unfolding joined added all
 surfaces-good no-more = refl
-surfaces-good (one-more {part = points ps} g gs) = surfaces-good gs
-surfaces-good (one-more {part = names ns} g gs) = surfaces-good gs
-surfaces-good (one-more {part = polygons ps n} g gs) = surfaces-good gs
-surfaces-good (one-more {part = tagging ts} g gs) = surfaces-good gs
-surfaces-good (one-more {part = surface n vs} g gs) = both g (surfaces-good gs)
-surfaces-good (one-more {part = skipped} g gs) = surfaces-good gs
+surfaces-good (one-more {part = pointList ps} g gs) = surfaces-good gs
+surfaces-good (one-more {part = nameList ns} g gs) = surfaces-good gs
+surfaces-good (one-more {part = polygonList ps n} g gs) = surfaces-good gs
+surfaces-good (one-more {part = tagging t ts} g gs) = surfaces-good gs
+surfaces-good (one-more {part = surface s} g gs) = both g (surfaces-good gs)
+surfaces-good (one-more {part = skippedChunk} g gs) = surfaces-good gs
 
-standing-good : (kind : Kind) (n : Name) (now : Surface) (ss : List (Name × List Value)) → all (λ s. all (goodValue kind) (s .1)) ss ≡ true → goodSurface now ≡ true → goodSurface (standing kind n now ss) ≡ true
+standing-good : (kind : Kind) (n : Name) (now : Option SurfaceChunk) (ss : List SurfaceChunk) → all (λ s. all (goodValue kind) (s .values)) ss ≡ true → goodSurface (recordFor kind now) ≡ true
+    → goodSurface (recordFor kind (standing n now ss)) ≡ true
 unfolding standing
 standing-good kind n now [] e g = g
 standing-good kind n now (s ∷ ss) e g =
-    standing-good kind n (if same n (s .0) then recordOf kind (s .1) else now) ss (all-rest (λ (s : Name × List Value). all (goodValue kind) (s .1)) s ss e) (by (same n (s .0)))
+    standing-good kind n (if same n (s .name) then some s else now) ss (all-rest (λ (s : SurfaceChunk). all (goodValue kind) (s .values)) s ss e) (by (same n (s .name)))
   where
-    by : (x : Bool) → goodSurface (if x then recordOf kind (s .1) else now) ≡ true
-    by true = record-good kind (s .1) (all-first (λ (s : Name × List Value). all (goodValue kind) (s .1)) s ss e)
+    by : (x : Bool) → goodSurface (recordFor kind (if x then some s else now)) ≡ true
+    by true = record-good kind (s .values) (all-first (λ (s : SurfaceChunk). all (goodValue kind) (s .values)) s ss e)
     by false = g
 
 missing-good : goodSurface missing ≡ true
 unfolding goodSurface every all finite same
 missing-good = refl
 
-all-standing : (kind : Kind) (ns : List Name) (ss : List (Name × List Value)) → all (λ s. all (goodValue kind) (s .1)) ss ≡ true → all goodSurface (map (λ n. standing kind n missing ss) ns) ≡ true
+all-standing : (kind : Kind) (ns : List Name) (ss : List SurfaceChunk) → all (λ s. all (goodValue kind) (s .values)) ss ≡ true
+    → all goodSurface (map (λ n. recordFor kind (standing n none ss)) ns) ≡ true
 unfolding all
 all-standing kind [] ss e = refl
-all-standing kind (n ∷ ns) ss e = both (standing-good kind n missing ss e missing-good) (all-standing kind ns ss e)
+all-standing kind (n ∷ ns) ss e = both (standing-good kind n none ss e missing-good) (all-standing kind ns ss e)
 
 -- ---- the mesh
 
@@ -285,9 +295,10 @@ mesh-good : (kind : Kind) (parts : List Part) → GoodParts kind start parts →
 unfolding goodMesh every meshOf all
 mesh-good kind parts g =
     let ns : List Name = joined (map namesOf parts) in
-    let ss : List (Name × List Value) = joined (map surfacesOf parts) in
+    let ss : List SurfaceChunk = joined (map surfacesOf parts) in
     let P : ℕ = length (joined (map pointsOf parts)) in
-    rw (eq-eqb (length (map (λ n. standing kind n missing ss) ns)) (length ns) (length-map ns (λ n. standing kind n missing ss)), points-good g, names-good g, all-standing kind ns ss (surfaces-good g))
+    let found : Name → Surface = λ n. recordFor kind (standing n none ss) in
+    rw (eq-eqb (length (map found ns)) (length ns) (length-map ns found), points-good g, names-good g, all-standing kind ns ss (surfaces-good g))
     (rw (polygons-good P (length ns) g 0 0 [] (omega arith) (omega arith) (omega arith) refl) refl)
 
 -- what the rules give a file of bytes is a mesh

@@ -1,4 +1,4 @@
--- The bodies of the chunks of a canonical file, each read back as what it was written from. Assumes nothing.
+-- The bodies of the chunks of a canonical file, each read back as what it was written from.
 use Prim.Native.Nat.{ℕ, zero, suc, _+_, _-_, _%_, _^_, _≤_, _<_}
 use Prim.Native.String.{String}
 use mathlib.Core.Path.{_≡_, refl, sym}
@@ -10,19 +10,20 @@ use lib.ListN.{length, take, drop, replicate, length-append, length-replicate}
 use borrow.Author.Tests.{le-leb, lt-ltb, eq-eqb, ltb-true, leb-true, eqb-true, eqb-false}
 use Rattle.format.specs.declared.Fault.the-variants.{VertexCount, VertexNumber, SurfaceNumber, PolygonNumber, PolygonType, BadName, SurfaceValue}
 use Rattle.format.specs.Bytes.{if_then_else_, number, spelt, finite, all, joined}
-use Rattle.format.specs.Limits.{vertexLimit, surfaceLimit}
-use Rattle.format.specs.Items.{Reader, _then_, _>>=_, give, _or_unless_, u2, u4, uint, vx, stringSize}
+use Rattle.format.specs.Limits.{lwo2VertexLimit, surfaceLimit}
+use Rattle.format.specs.Items.{Reader, _andThen_, _>>=_, give, _or_unless_, u2, u4, uint, vx, stringSize}
 use Rattle.format.specs.declared.Kind.the-variants.{LWO2}
 use Rattle.format.specs.declared.Container.the-variants.{Surf}
 use Rattle.format.specs.Chunks.{sub, fixed}
-use Rattle.format.specs.Mesh.{Point, pointWords, pointFrom, Polygon, FACE, PATCH, Name, Surface, levels}
-use Rattle.format.specs.Surfaces.{Value, value, sideNumber, lwo2Value, held, nested, last, recordOf}
-use Rattle.format.specs.Bodies.{points, names, polygons, tagging, surface, point, wholePoints, pointsBody, newName, name, namesAfter, namesBody, vertex, countBits, lwo2Vertices, polygon, polygonType, polygonKind, polygonsBody, pair, taggingBody, surfaceName, surfaceBody}
+use Rattle.format.specs.Mesh.{Point, pointWords, pointFrom, Polygon, polygonOf, FACE, PATCH, Name, Surface, levels}
+use Rattle.format.specs.Surfaces.{Value, value, sideNumber, lwo2Value, held, nested, lastOf, recordOf}
+use Rattle.format.specs.Bodies.{Part, SurfaceChunk, pointList, nameList, polygonList, tagging, surface, point, wholePoints, pointsBody, newName, name, namesAfter, namesBody, vertex, countBits, lwo2Vertices, polygon, polygonType, polygonKind, polygonsBody, pair, taggingBody, surfaceStrings, surfaceBody}
 use Rattle.format.specs.Canonical.{bytes, vxBytes, stringBytes, chunkBytes, pointBytes, polygonBytes, typeOf, pairsOf, pairBytes, levelBytes, surfaceBytes}
 use Rattle.format.specs.Written.{goodPolygon, noZero, goodNames}
 use Rattle.format.proofs.Facts.{every-at, all-first, all-rest, all-part, between-true, length-entries}
 use Rattle.laws.proofs.Reading.{Reads, Ends, ends, reads-give, reads-then, ends-then, reads-as, ends-as, reads-unless, Row, none, more, reads-times, ends-many, rows, rows-same}
-use Rattle.laws.proofs.Items.{reads-item, length-bytes, reads-uint, floats, reads-floats, reads-vx, reads-string}
+use Rattle.format.proofs.CanonicalLengths.{length-bytes, length-point, length-vx}
+use Rattle.laws.proofs.Items.{reads-item, reads-uint, floats, reads-floats, reads-vx, reads-string}
 use Rattle.laws.proofs.GoodPolygons.{GoodPolygon, good-polygon}
 use Rattle.laws.proofs.Chunks.{isTag, more-sub, ends-of-length}
 
@@ -36,15 +37,11 @@ reads-point : (p : Point) → goodPoint p ≡ true → Reads point (pointBytes p
 unfolding point floats
 reads-point p ok = rw append-nil at (reads-floats (λ ws. give (pointFrom ws)) (pointWords p) ok reads-give)
 
-pub length-point : (p : Point) → length (pointBytes p) ≡ 12
-unfolding joined bytes
-length-point p = refl
-
-pub ends-points : (ps : List Point) → all goodPoint ps ≡ true → Ends (pointsBody LWO2) (joined (map pointBytes ps)) (points ps)
+pub ends-points : (ps : List Point) → all goodPoint ps ≡ true → Ends (pointsBody LWO2) (joined (map pointBytes ps)) (pointList ps)
 unfolding pointsBody wholePoints
 ends-points ps ok =
     ends-of-length 4 (wholePoints LWO2) (eq-eqb (length (joined (map pointBytes ps)) % 12) 0 (omega (arith, length-entries 12 pointBytes length-point ps)))
-    (ends-as points (ends-many (rows-same pointBytes goodPoint reads-point (λ p. omega (arith, length-point p)) ps ok)))
+    (ends-as pointList (ends-many (rows-same pointBytes goodPoint reads-point (λ p. omega (arith, length-point p)) ps ok)))
 
 -- ---- names
 
@@ -88,23 +85,15 @@ ends-names-after (suc k) earlier (n ∷ ns) ok fits =
     let less : length (joined (map stringBytes ns)) ≤ k = omega (arith, length-append (stringBytes n) (joined (map stringBytes ns)), length-string n) in
     names-step k earlier (reads-name earlier n ns g) (omega (arith, length-string n)) (ends-names-after k (earlier ++ (n ∷ [])) ns (g .rest) less)
 
-pub ends-names : (ns : List Name) → goodNames [] ns ≡ true → Ends namesBody (joined (map stringBytes ns)) (names ns)
+pub ends-names : (ns : List Name) → goodNames [] ns ≡ true → Ends namesBody (joined (map stringBytes ns)) (nameList ns)
 unfolding namesBody
-ends-names ns ok = record { here = ends-as names (ends-names-after (length (joined (map stringBytes ns))) [] ns ok (omega arith)) .here }
+ends-names ns ok = record { here = ends-as nameList (ends-names-after (length (joined (map stringBytes ns))) [] ns ok (omega arith)) .here }
 
 -- ---- polygons
 
 -- a polygon as POLS has it, without its surface
 abbrev pub bare : ℕ → Polygon → Polygon
-bare k p = record { kind = k; surface = 0; vertices = p .vertices }
-
-pub length-vx : (n : ℕ) → 2 ≤ length (vxBytes n)
-unfolding vxBytes
-length-vx n = go (ltb n 65280)
-  where
-    go : (b : Bool) → 2 ≤ length (if b then bytes 2 n else bytes 4 (0xFF00_0000 + n))
-    go true = omega (arith, length-bytes 2 n)
-    go false = omega (arith, length-bytes 4 (0xFF00_0000 + n))
+bare k p = polygonOf k 0 (p .vertices)
 
 reads-vertex : (pointCount : ℕ) → pointCount ≤ 2 ^ 24 → (v : ℕ) → ltb v pointCount ≡ true → Reads (vertex vx pointCount) (vxBytes v) v
 reads-vertex pointCount few v small = reads-unless VertexNumber (λ v. ltb v pointCount) (reads-vx v (omega (arith, ltb-true v pointCount small))) small
@@ -145,12 +134,12 @@ typed k kinds = go (eqb k FACE) refl
     go false e = let patch : k ≡ PATCH = omega (arith, eqb-false k FACE e, kinds) in rw patch (record { four = refl; known = refl; kind = refl })
 
 pub ends-run : (pointCount nameCount k : ℕ) → pointCount ≤ 2 ^ 24 → (FACE ≤ k) × (k ≤ PATCH) → (ps : List Polygon) → all (goodPolygon pointCount nameCount) ps ≡ true
-    → Ends (polygonsBody pointCount) (spelt (typeOf k) ++ joined (map polygonBytes ps)) (polygons (map (bare k) ps) 0)
+    → Ends (polygonsBody pointCount) (spelt (typeOf k) ++ joined (map polygonBytes ps)) (polygonList (map (bare k) ps) 0)
 unfolding polygonsBody
 ends-run pointCount nameCount k few kinds ps ok =
     let t = typed k kinds in
     let row = rows polygonBytes (bare k) (goodPolygon pointCount nameCount) (reads-polygon pointCount nameCount k few) length-polygon ps ok in
-    ends-then _ (reads-unless PolygonType polygonType (reads-tag (typeOf k) (t .four)) (t .known)) (rw (t .kind) (ends-as (λ ps. polygons ps 0) (ends-many row)))
+    ends-then _ (reads-unless PolygonType polygonType (reads-tag (typeOf k) (t .four)) (t .known)) (rw (t .kind) (ends-as (λ ps. polygonList ps 0) (ends-many row)))
 
 -- ---- a run's PTAG
 
@@ -185,11 +174,15 @@ row-pairs pointCount polygonCount nameCount i few (p ∷ ps) fits ok =
     go false e later =
         more (reads-pair polygonCount nameCount i (p .surface) few (omega arith) (g .named) (g .numbered) (eqb-false (p .surface) 0 e)) (length-pair (i, p .surface)) later
 
+-- a PTAG of surfaces
+abbrev pub surfaceTags : List (ℕ × ℕ) → Part
+surfaceTags ts = tagging (number (spelt "SURF")) ts
+
 pub ends-pairs : (pointCount polygonCount nameCount : ℕ) → polygonCount ≤ 2 ^ 24 → (ps : List Polygon) → length ps ≤ polygonCount
-    → all (goodPolygon pointCount nameCount) ps ≡ true → Ends (taggingBody polygonCount nameCount) (spelt "SURF" ++ joined (map pairBytes (pairsOf 0 ps))) (tagging (pairsOf 0 ps))
+    → all (goodPolygon pointCount nameCount) ps ≡ true → Ends (taggingBody polygonCount nameCount) (spelt "SURF" ++ joined (map pairBytes (pairsOf 0 ps))) (surfaceTags (pairsOf 0 ps))
 unfolding taggingBody number
 ends-pairs pointCount polygonCount nameCount few ps fits ok =
-    ends-then _ (reads-tag "SURF" refl) (ends-as tagging (ends-many (row-pairs pointCount polygonCount nameCount 0 few ps (omega arith) ok)))
+    ends-then _ (reads-tag "SURF" refl) (ends-as surfaceTags (ends-many (row-pairs pointCount polygonCount nameCount 0 few ps (omega arith) ok)))
 
 -- ---- surfaces
 
@@ -254,16 +247,20 @@ row-values s known sides =
     (more-levels "TRAN" (s .transparency ∷ []) refl (omega arith) (finites 7 1) refl
     (more-sub values "SIDE" (bytes 2 (s .sides)) refl (omega (arith, length-bytes 2 (s .sides))) (ends-sides _ (s .sides) sides) none))))))
 
+-- a SURF as it is written: "empty source"
+abbrev pub written : Name → Surface → SurfaceChunk
+written n s = record { name = n; source = []; values = joined (valuesOf s) }
+
 pub ends-surface : (n : Name) (s : Surface) → noZero n ≡ true → all finite (levels s) ≡ true → sideNumber (s .sides) ≡ true
-    → Ends (surfaceBody LWO2) (surfaceBytes n s) (surface n (joined (valuesOf s)))
-unfolding surfaceBody surfaceName nested surfaceBytes joined all
+    → Ends (surfaceBody LWO2) (surfaceBytes n s) (surface (written n s))
+unfolding surfaceBody surfaceStrings nested surfaceBytes joined all
 ends-surface n s no-zero known sides =
-    let name : Reads (surfaceName LWO2) (stringBytes n ++ stringBytes []) n = reads-then _ (reads-string n no-zero) (reads-as (λ source. n) (reads-string [] refl)) in
-    rw (← append-assoc (stringBytes n) (stringBytes [])) (ends-then _ name (ends-as (surface n) (ends-as joined (ends-many (row-values s known sides)))))
+    let called : Reads (surfaceStrings LWO2) (stringBytes n ++ stringBytes []) (n, []) = reads-then _ (reads-string n no-zero) (reads-as (λ source. (n, source)) (reads-string [] refl)) in
+    rw (← append-assoc (stringBytes n) (stringBytes [])) (ends-then _ called (ends-as (λ vs. surface (record { name = n; source = []; values = vs })) (ends-as joined (ends-many (row-values s known sides)))))
 
 -- the record that those values make
 pub record-back : (s : Surface) → s .defined ≡ 1 → recordOf LWO2 (joined (valuesOf s)) ≡ s
-unfolding recordOf valuesOf joined last number
+unfolding recordOf valuesOf joined lastOf number
 record-back s defined = λ i. record {
   defined = sym defined i;
   red = s .red;

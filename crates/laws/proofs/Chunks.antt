@@ -1,5 +1,5 @@
 -- Chunks and sub-chunks: bytes that are one whole chunk are read as that chunk, in front of any rest, and so are the bytes that a chunk is written as.
--- Assumes nothing.
+--
 use Prim.Native.Nat.{ℕ, _+_, _%_, _^_, _≤_, _<_}
 use Prim.Native.String.{String}
 use mathlib.Core.Path.{_≡_, refl, sym, ap, _∙_}
@@ -12,13 +12,14 @@ use lib.Seq.{take-at, drop-at, drop-drop, take-append-le, drop-append-le, length
 use borrow.Author.Tests.{le-leb, leb-true, eqb-true}
 use Rattle.format.specs.declared.Fault.the-variants.{BadHeader}
 use Rattle.format.specs.Bytes.{if_then_else_, number, spelt, between, every, all}
-use Rattle.format.specs.Items.{fine, fault, Got, Reader, _then_}
+use Rattle.format.specs.Items.{fine, fault, Got, Reader, _andThen_}
 use Rattle.format.specs.Chunks.{Chunk, sizeOf, lengthOf, wellFormed, chunkOf, sub, ofLength}
 use Rattle.format.specs.Canonical.{bytes, chunkBytes}
 use Rattle.format.proofs.Facts.{every-at}
 use Rattle.format.proofs.Verdicts.{chosen}
 use Rattle.laws.proofs.Reading.{got, Reads, Ends, wholly, Row, more}
-use Rattle.laws.proofs.Items.{length-bytes, number-bytes, zeros}
+use Rattle.format.proofs.CanonicalLengths.{length-bytes}
+use Rattle.laws.proofs.Items.{number-bytes, zeros}
 
 -- ---- one whole chunk
 
@@ -124,7 +125,7 @@ reads-chunk width t body good small =
 -- one more sub-chunk in a row of them
 pub more-sub : {A : Type 0} (inside : (tag : ℕ) → Reader A) (t : String) (body : List ℕ) {a : A} {ws : List (List ℕ)} {xs : List A} → isTag t ≡ true → length body < 65536
     → Ends (inside (number (spelt t))) body a → Row (sub inside) ws xs → Row (sub inside) (chunkBytes 2 t body ∷ ws) (a ∷ xs)
-unfolding sub _then_
+unfolding sub _andThen_
 more-sub inside t body {a} good small h row =
     let read : Reads (sub inside) (chunkBytes 2 t body) a = record { here = λ at rest. rw (reads-chunk 2 t body good small .here at rest, wholly at (at + 6) h) } in
     more read (omega (arith, shorter 2 t body good)) row

@@ -6,14 +6,14 @@ use lib.Dec.{ltb}
 use lib.ListN.{length}
 use borrow.Author.Tests.{leb-true, le-leb}
 use Rattle.format.specs.Bytes.{every, all}
-use Rattle.format.specs.Limits.{vertexLimit, surfaceLimit}
+use Rattle.format.specs.Limits.{lwo2VertexLimit, surfaceLimit}
 use Rattle.format.specs.Mesh.{Polygon, FACE, PATCH}
 use Rattle.format.specs.Written.{goodPolygon}
 use Rattle.format.proofs.Facts.{every-at, between-true}
 
 pub record GoodPolygon (pointCount nameCount : ℕ) (p : Polygon) : Type 0 where
   pub kinds : (FACE ≤ p .kind) × (p .kind ≤ PATCH)
-  pub count : (1 ≤ length (p .vertices)) × (length (p .vertices) ≤ vertexLimit)
+  pub count : (1 ≤ length (p .vertices)) × (length (p .vertices) ≤ lwo2VertexLimit)
   pub vertices : all (λ v. ltb v pointCount) (p .vertices) ≡ true
   pub named : p .surface ≤ nameCount
   pub numbered : p .surface ≤ surfaceLimit
@@ -31,4 +31,4 @@ good-polygon pointCount nameCount p ok = record {
 pub is-good : {pointCount nameCount : ℕ} {p : Polygon} → GoodPolygon pointCount nameCount p → goodPolygon pointCount nameCount p ≡ true
 unfolding goodPolygon every
 is-good {pointCount} {nameCount} {p} g =
-    rw (le-leb FACE (p .kind) (g .kinds .0), le-leb (p .kind) PATCH (g .kinds .1), le-leb 1 (length (p .vertices)) (g .count .0), le-leb (length (p .vertices)) vertexLimit (g .count .1), g .vertices, le-leb (p .surface) nameCount (g .named), le-leb (p .surface) surfaceLimit (g .numbered))
+    rw (le-leb FACE (p .kind) (g .kinds .0), le-leb (p .kind) PATCH (g .kinds .1), le-leb 1 (length (p .vertices)) (g .count .0), le-leb (length (p .vertices)) lwo2VertexLimit (g .count .1), g .vertices, le-leb (p .surface) nameCount (g .named), le-leb (p .surface) surfaceLimit (g .numbered))

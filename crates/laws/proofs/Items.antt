@@ -1,4 +1,4 @@
--- The items: each is read back from the bytes that it is written as, in front of any rest. Assumes nothing.
+-- The items: each is read back from the bytes that it is written as, in front of any rest.
 use Prim.Native.Nat.{ℕ, zero, suc, _+_, _-_, _*_, _/_, _%_, _^_, _≤_, _<_}
 use mathlib.Core.Path.{_≡_, refl, ap, _∙_}
 use mathlib.Core.List.{List, [], _∷_, _++_, map, foldl-append, append-assoc}
@@ -9,10 +9,11 @@ use lib.ListN.{length, take, drop, replicate, length-append, length-replicate}
 use lib.Seq.{take-at, drop-at, take-append-seam, drop-append-seam}
 use borrow.Author.Tests.{le-leb, ne-eqb, eq-eqb, ltb-true, not-true}
 use Rattle.format.specs.Bytes.{if_then_else_, number, finite, all, joined}
-use Rattle.format.specs.Items.{Reader, _then_, _>>=_, item, uint, float, long, vx, toZero, stringSize, string}
+use Rattle.format.specs.Items.{Reader, _andThen_, _>>=_, item, uint, float, long, vx, toZero, stringSize, string}
 use Rattle.format.specs.Canonical.{bytes, vxBytes, stringBytes}
 use Rattle.format.specs.Written.{noZero}
 use Rattle.format.proofs.Facts.{all-first, all-rest, finite-bits}
+use Rattle.format.proofs.CanonicalLengths.{length-bytes}
 use Rattle.laws.proofs.Reading.{Reads, reads-then, reads-as, reads-unless}
 
 -- ---- numbers
@@ -24,11 +25,6 @@ reads-item n w long = record {
       let enough : n ≤ length (w ++ rest) = omega (arith, length-append w rest) in
       rw (le-leb n (length (w ++ rest)) enough, take-at w rest n long, drop-at w rest n long, long);
 }
-
-pub length-bytes : (k n : ℕ) → length (bytes k n) ≡ k
-unfolding bytes
-length-bytes zero n = refl
-length-bytes (suc k) n = length-append (bytes k (n / 256)) (n % 256 ∷ []) ∙ omega (arith, length-bytes k (n / 256))
 
 pub number-bytes : (k n : ℕ) → n < 256 ^ k → number (bytes k n) ≡ n
 unfolding number bytes
@@ -63,7 +59,7 @@ reads-floats f (x ∷ xs) known h =
 -- ---- VX
 
 pub reads-vx : (n : ℕ) → n < 2 ^ 24 → Reads vx (vxBytes n) n
-unfolding vx vxBytes bytes _>>=_ _then_
+unfolding vx vxBytes bytes _>>=_ _andThen_
 reads-vx n small = go (ltb n 65280) refl
   where
     go : (b : Bool) → ltb n 65280 ≡ b → Reads vx (if b then bytes 2 n else bytes 4 (0xFF00_0000 + n)) n

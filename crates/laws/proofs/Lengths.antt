@@ -1,21 +1,19 @@
 -- How long a canonical file is at least: it has a byte for each name, byte of a name, polygon and vertex, and twelve for each point. So a file within the
--- limit bounds every count of its mesh. Assumes nothing.
+-- limit bounds every count of its mesh.
 use Prim.Native.Nat.{ℕ, _+_, _*_, _%_, _≤_}
 use Prim.Native.String.{String}
-use mathlib.Core.Path.{ap}
+use mathlib.Core.Path.{refl, ap}
 use mathlib.Core.List.{List, [], _∷_, _++_, map, append-nil}
 use native.Mathlib.Omega.{arith}
 use lib.ListN.{length, replicate, length-append}
 use Rattle.format.specs.Bytes.{spelt, joined}
-use Rattle.format.specs.declared.Kind.the-variants.{LWO2}
 use Rattle.format.specs.Mesh.{Polygon, Name, Mesh}
 use Rattle.format.specs.Canonical.{bytes, vxBytes, stringBytes, chunkBytes, pointBytes, polygonBytes, typeOf, pairsOf, pairBytes, runs, unlessEmpty, runChunks, surfaceChunks, canonicalChunks, encoded, canonical}
 use Rattle.format.proofs.Puts.{total-append}
 use Rattle.format.proofs.Facts.{length-entries}
-use Rattle.laws.proofs.Items.{length-bytes}
-use Rattle.laws.proofs.Bodies.{length-point, length-string, length-vx}
+use Rattle.format.proofs.CanonicalLengths.{length-bytes, length-point, length-vx, length-form}
+use Rattle.laws.proofs.Bodies.{length-string}
 use Rattle.laws.proofs.Polygons.{joined-runs}
-use Rattle.laws.proofs.Form.{length-form}
 
 -- the length of what some elements are written as, joined
 abbrev total : {A B : Type 0} → (A → List B) → List A → ℕ
@@ -93,9 +91,9 @@ pub counts : (m : Mesh) (most : ℕ) → length (canonical m) ≤ most → Count
 unfolding canonical
 counts m most short =
     let held = total-mesh m in
-    let long = length-form LWO2 (joined (map encoded (canonicalChunks m))) in
+    let long = length-form "LWO2" (joined (map encoded (canonicalChunks m))) refl in
     record { points = omega arith; polygons = omega arith; vertices = omega arith; names = omega arith; nameBytes = omega arith }
 
 pub chunks-within : (m : Mesh) (most : ℕ) → length (canonical m) ≤ most → 12 + length (joined (map encoded (canonicalChunks m))) ≤ most
 unfolding canonical
-chunks-within m most short = omega (arith, length-form LWO2 (joined (map encoded (canonicalChunks m))))
+chunks-within m most short = omega (arith, length-form "LWO2" (joined (map encoded (canonicalChunks m))) refl)

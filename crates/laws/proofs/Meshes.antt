@@ -1,7 +1,8 @@
--- The parts of a canonical file make the mesh again, with nothing skipped and no details. Assumes nothing.
+-- The parts of a canonical file make the mesh again, with nothing skipped and no details.
 use Prim.Native.Nat.{ℕ}
 use mathlib.Core.Path.{_≡_, refl, sym, ap, _∙_}
 use mathlib.Core.List.{List, [], _∷_, _++_, map, append-assoc, append-nil}
+use mathlib.Core.Option.{Option, none, some}
 use mathlib.Core.Bool.{Bool, true, false, not, _||_, false≢true, and-eq-true-iff, or-true}
 use native.Mathlib.Omega.{arith}
 use lib.Dec.{leb, eqb}
@@ -12,20 +13,21 @@ use Rattle.format.specs.Limits.{nameLimit}
 use Rattle.format.specs.Mesh.{Point, pointWords, Polygon, Name, Surface, Mesh, missing, surfaceWords, surfaceFrom}
 use Rattle.format.specs.Items.{fine}
 use Rattle.format.specs.declared.Kind.the-variants.{LWO2}
-use Rattle.format.specs.Surfaces.{Value, recordOf}
-use Rattle.format.specs.Bodies.{Part, points, names, polygons, tagging, surface, newName}
-use Rattle.format.specs.Rules.{pointsOf, namesOf, detailsOf, skippedOf, surfacesOf, standing, meshOf, gives, outcome}
+use Rattle.format.specs.Surfaces.{recordOf}
+use Rattle.format.specs.Bodies.{Part, SurfaceChunk, pointList, nameList, polygonList, surface, newName}
+use Rattle.format.specs.Rules.{added, pointsOf, namesOf, detailsOf, skippedOf, surfacesOf, standing, recordFor, meshOf, gives}
 use Rattle.format.specs.Canonical.{pairsOf, runs}
 use Rattle.format.specs.Written.{goodPolygon, goodNames, goodSurface, goodMesh}
 use Rattle.format.proofs.Facts.{every-at, all-first, all-rest}
-use Rattle.laws.proofs.Bodies.{bare, valuesOf, good-name, record-back}
+use Rattle.laws.proofs.Bodies.{bare, surfaceTags, written, good-name, record-back}
+use Rattle.laws.proofs.Form.{told}
 use Rattle.laws.proofs.Polygons.{polygons-back}
-use Rattle.laws.proofs.Walk.{partsOf, unless, runParts, surfaceParts}
+use Rattle.laws.proofs.Walk.{canonicalParts, unless, runParts, surfaceParts}
 
 -- ---- what parts add to the lists
 
 -- parts, and the points, names and surfaces that they add, where none was skipped and there are no details
-record Adds (ps : List Part) (pts : List Point) (ns : List Name) (ss : List (Name × List Value)) : Type 0 where
+record Adds (ps : List Part) (pts : List Point) (ns : List Name) (ss : List SurfaceChunk) : Type 0 where
   points-are : joined (map pointsOf ps) ≡ pts
   names-are : joined (map namesOf ps) ≡ ns
   surfaces-are : joined (map surfacesOf ps) ≡ ss
@@ -36,7 +38,7 @@ adds-none : Adds [] [] [] []
 unfolding joined sum
 adds-none = record { points-are = refl; names-are = refl; surfaces-are = refl; none-skipped = refl; no-details = refl }
 
-adds-more : {ps : List Part} {pts : List Point} {ns : List Name} {ss : List (Name × List Value)} (p : Part) → skippedOf p ≡ 0 → detailsOf p ≡ 0 → Adds ps pts ns ss
+adds-more : {ps : List Part} {pts : List Point} {ns : List Name} {ss : List SurfaceChunk} (p : Part) → skippedOf p ≡ 0 → detailsOf p ≡ 0 → Adds ps pts ns ss
     → Adds (p ∷ ps) (pointsOf p ++ pts) (namesOf p ++ ns) (surfacesOf p ++ ss)
 unfolding joined sum
 adds-more {ps} {pts} {ns} {ss} p skips details a = record {
@@ -48,48 +50,48 @@ adds-more {ps} {pts} {ns} {ss} p skips details a = record {
 }
 
 -- the same with the lists that it adds written out
-adds-names : {ps : List Part} {pts : List Point} {ns : List Name} {ss : List (Name × List Value)} (new : List Name) → Adds ps pts ns ss → Adds (unless names new ++ ps) pts (new ++ ns) ss
-unfolding pointsOf namesOf surfacesOf skippedOf detailsOf
+adds-names : {ps : List Part} {pts : List Point} {ns : List Name} {ss : List SurfaceChunk} (new : List Name) → Adds ps pts ns ss → Adds (unless nameList new ++ ps) pts (new ++ ns) ss
+unfolding added
 adds-names [] a = a
-adds-names (n ∷ new) a = adds-more (names (n ∷ new)) refl refl a
+adds-names (n ∷ new) a = adds-more (nameList (n ∷ new)) refl refl a
 
-adds-points : {ps : List Part} {pts : List Point} {ns : List Name} {ss : List (Name × List Value)} (new : List Point) → Adds ps pts ns ss → Adds (unless points new ++ ps) (new ++ pts) ns ss
-unfolding pointsOf namesOf surfacesOf skippedOf detailsOf
+adds-points : {ps : List Part} {pts : List Point} {ns : List Name} {ss : List SurfaceChunk} (new : List Point) → Adds ps pts ns ss → Adds (unless pointList new ++ ps) (new ++ pts) ns ss
+unfolding added
 adds-points [] a = a
-adds-points (p ∷ new) a = adds-more (points (p ∷ new)) refl refl a
+adds-points (p ∷ new) a = adds-more (pointList (p ∷ new)) refl refl a
 
-adds-run : {ps : List Part} {pts : List Point} {ns : List Name} {ss : List (Name × List Value)} (r : List Polygon) → Adds ps pts ns ss → Adds (runParts r ++ ps) pts ns ss
-unfolding runParts pointsOf namesOf surfacesOf skippedOf detailsOf
+adds-run : {ps : List Part} {pts : List Point} {ns : List Name} {ss : List SurfaceChunk} (r : List Polygon) → Adds ps pts ns ss → Adds (runParts r ++ ps) pts ns ss
+unfolding runParts added
 adds-run [] a = a
-adds-run {ps} {pts} {ns} {ss} (p ∷ r) a = adds-more (polygons (map (bare (p .kind)) (p ∷ r)) 0) refl refl (go (pairsOf 0 (p ∷ r)))
+adds-run {ps} {pts} {ns} {ss} (p ∷ r) a = adds-more (polygonList (map (bare (p .kind)) (p ∷ r)) 0) refl refl (go (pairsOf 0 (p ∷ r)))
   where
-    go : (ts : List (ℕ × ℕ)) → Adds (unless tagging ts ++ ps) pts ns ss
+    go : (ts : List (ℕ × ℕ)) → Adds (unless surfaceTags ts ++ ps) pts ns ss
     go [] = a
-    go (t ∷ ts) = adds-more (tagging (t ∷ ts)) refl refl a
+    go (t ∷ ts) = adds-more (surfaceTags (t ∷ ts)) refl refl a
 
-adds-runs : {ps : List Part} {pts : List Point} {ns : List Name} {ss : List (Name × List Value)} (rs : List (List Polygon)) → Adds ps pts ns ss → Adds (joined (map runParts rs) ++ ps) pts ns ss
+adds-runs : {ps : List Part} {pts : List Point} {ns : List Name} {ss : List SurfaceChunk} (rs : List (List Polygon)) → Adds ps pts ns ss → Adds (joined (map runParts rs) ++ ps) pts ns ss
 unfolding joined
 adds-runs [] a = a
 adds-runs {ps} (r ∷ rs) a = rw (append-assoc (runParts r) (joined (map runParts rs)) ps) (adds-run r (adds-runs rs a))
 
 -- the surfaces that a file defines
-unfoldable definedIn : List Name → List Surface → List (Name × List Value)
+unfoldable definedIn : List Name → List Surface → List SurfaceChunk
 definedIn [] ss = []
 definedIn (n ∷ ns) [] = []
-definedIn (n ∷ ns) (s ∷ ss) = (if eqb (s .defined) 1 then (n, joined (valuesOf s)) ∷ [] else []) ++ definedIn ns ss
+definedIn (n ∷ ns) (s ∷ ss) = (if eqb (s .defined) 1 then written n s ∷ [] else []) ++ definedIn ns ss
 
 adds-surfaces : (ns : List Name) (ss : List Surface) → Adds (surfaceParts ns ss) [] [] (definedIn ns ss)
-unfolding surfaceParts definedIn pointsOf namesOf surfacesOf skippedOf detailsOf
+unfolding surfaceParts definedIn added
 adds-surfaces [] ss = adds-none
 adds-surfaces (n ∷ ns) [] = adds-none
 adds-surfaces (n ∷ ns) (s ∷ ss) = go (eqb (s .defined) 1) (adds-surfaces ns ss)
   where
     go : (b : Bool) → Adds (surfaceParts ns ss) [] [] (definedIn ns ss)
-        → Adds ((if b then surface n (joined (valuesOf s)) ∷ [] else []) ++ surfaceParts ns ss) [] [] ((if b then (n, joined (valuesOf s)) ∷ [] else []) ++ definedIn ns ss)
-    go true a = adds-more (surface n (joined (valuesOf s))) refl refl a
+        → Adds ((if b then surface (written n s) ∷ [] else []) ++ surfaceParts ns ss) [] [] ((if b then written n s ∷ [] else []) ++ definedIn ns ss)
+    go true a = adds-more (surface (written n s)) refl refl a
     go false a = a
 
-adds-parts : (m : Mesh) → Adds (partsOf m) (m .points) (m .names) (definedIn (m .names) (m .surfaces))
+adds-parts : (m : Mesh) → Adds (canonicalParts m) (m .points) (m .names) (definedIn (m .names) (m .surfaces))
 adds-parts m =
     rw append-nil at (adds-names (m .names) (rw append-nil at (adds-points (m .points) (adds-runs (runs (m .polygons)) (adds-surfaces (m .names) (m .surfaces))))))
 
@@ -145,31 +147,31 @@ apart-first n k ns ok = (other, go (same k n) refl)
     go false e = refl
 
 -- the first SURF stands if it is of that name
-standing-first : (n k : Name) (now : Surface) (vs : List Value) (rest : List (Name × List Value)) (b : Bool) → same n k ≡ b
-    → standing LWO2 n now ((k, vs) ∷ rest) ≡ standing LWO2 n (if b then recordOf LWO2 vs else now) rest
+standing-first : (n : Name) (now : Option SurfaceChunk) (s : SurfaceChunk) (rest : List SurfaceChunk) (b : Bool) → same n (s .name) ≡ b
+    → standing n now (s ∷ rest) ≡ standing n (if b then some s else now) rest
 unfolding standing
-standing-first n k now vs rest b e = ap (λ (b : Bool). standing LWO2 n (if b then recordOf LWO2 vs else now) rest) e
+standing-first n now s rest b e = ap (λ (b : Bool). standing n (if b then some s else now) rest) e
 
 -- surfaces of other names change nothing
-standing-none : (n : Name) (now : Surface) (ns : List Name) (ss : List Surface) → apart n ns ≡ true → standing LWO2 n now (definedIn ns ss) ≡ now
+standing-none : (n : Name) (now : Option SurfaceChunk) (ns : List Name) (ss : List Surface) → apart n ns ≡ true → standing n now (definedIn ns ss) ≡ now
 unfolding standing definedIn
 standing-none n now [] ss ok = refl
 standing-none n now (k ∷ ns) [] ok = refl
 standing-none n now (k ∷ ns) (s ∷ ss) ok =
     go (eqb (s .defined) 1) (apart-first n k ns ok .0) (standing-none n now ns ss (all-rest _ k ns ok))
   where
-    go : (b : Bool) → same n k ≡ false → standing LWO2 n now (definedIn ns ss) ≡ now
-        → standing LWO2 n now ((if b then (k, joined (valuesOf s)) ∷ [] else []) ++ definedIn ns ss) ≡ now
-    go true other later = standing-first n k now (joined (valuesOf s)) (definedIn ns ss) false other ∙ later
+    go : (b : Bool) → same n k ≡ false → standing n now (definedIn ns ss) ≡ now
+        → standing n now ((if b then written k s ∷ [] else []) ++ definedIn ns ss) ≡ now
+    go true other later = standing-first n now (written k s) (definedIn ns ss) false other ∙ later
     go false other later = later
 
 -- nor does the surface of one name change what stands for the others
-skip-first : (b : Bool) (n : Name) (vs : List Value) (rest : List (Name × List Value)) (ks : List Name) → apart n ks ≡ true
-    → map (λ k. standing LWO2 k missing ((if b then (n, vs) ∷ [] else []) ++ rest)) ks ≡ map (λ k. standing LWO2 k missing rest) ks
-skip-first false n vs rest ks ok = refl
-skip-first true n vs rest [] ok = refl
-skip-first true n vs rest (k ∷ ks) ok =
-    rw (standing-first k n missing vs rest false (apart-first n k ks ok .1), skip-first true n vs rest ks (all-rest _ k ks ok))
+skip-first : (b : Bool) (s : SurfaceChunk) (rest : List SurfaceChunk) (ks : List Name) → apart (s .name) ks ≡ true
+    → map (λ k. recordFor LWO2 (standing k none ((if b then s ∷ [] else []) ++ rest))) ks ≡ map (λ k. recordFor LWO2 (standing k none rest)) ks
+skip-first false s rest ks ok = refl
+skip-first true s rest [] ok = refl
+skip-first true s rest (k ∷ ks) ok =
+    rw (standing-first k none s rest false (apart-first (s .name) k ks ok .1), skip-first true s rest ks (all-rest _ k ks ok))
 
 -- an undefined surface is the missing one
 undefined : (s : Surface) → goodSurface s ≡ true → eqb (s .defined) 1 ≡ false → missing ≡ s
@@ -179,7 +181,7 @@ undefined s ok e =
     sym (ap surfaceFrom (same-eq (surfaceWords s) (surfaceWords missing) words))
 
 surfaces-back : (earlier ns : List Name) (ss : List Surface) → goodNames earlier ns ≡ true → all goodSurface ss ≡ true → length ss ≡ length ns
-    → map (λ n. standing LWO2 n missing (definedIn ns ss)) ns ≡ ss
+    → map (λ n. recordFor LWO2 (standing n none (definedIn ns ss))) ns ≡ ss
 unfolding definedIn
 surfaces-back earlier [] [] names-ok ok long = refl
 surfaces-back earlier [] (s ∷ ss) names-ok ok long = absurd (omega arith)
@@ -188,16 +190,16 @@ surfaces-back earlier (n ∷ ns) (s ∷ ss) names-ok ok long =
     let g = good-name earlier n ns names-ok in
     let others : apart n ns ≡ true = all-apart n (earlier ++ (n ∷ [])) ns own (g .rest) in
     let later = surfaces-back (earlier ++ (n ∷ [])) ns ss (g .rest) (all-rest goodSurface s ss ok) (omega arith) in
-    rw (first (eqb (s .defined) 1) refl (all-first goodSurface s ss ok) others, skip-first (eqb (s .defined) 1) n (joined (valuesOf s)) (definedIn ns ss) ns others, later)
+    rw (first (eqb (s .defined) 1) refl (all-first goodSurface s ss ok) others, skip-first (eqb (s .defined) 1) (written n s) (definedIn ns ss) ns others, later)
   where
     own : amongst n (earlier ++ (n ∷ [])) ≡ true
     own = unfold amongst in rw (amongst-append n earlier (n ∷ []), same-refl n) (or-true (amongst n earlier))
 
     first : (b : Bool) → eqb (s .defined) 1 ≡ b → goodSurface s ≡ true → apart n ns ≡ true
-        → standing LWO2 n missing ((if b then (n, joined (valuesOf s)) ∷ [] else []) ++ definedIn ns ss) ≡ s
+        → recordFor LWO2 (standing n none ((if b then written n s ∷ [] else []) ++ definedIn ns ss)) ≡ s
     first true e good others =
-        standing-first n n missing (joined (valuesOf s)) (definedIn ns ss) true (same-refl n) ∙ standing-none n (recordOf LWO2 (joined (valuesOf s))) ns ss others ∙ record-back s (eqb-true (s .defined) 1 e)
-    first false e good others = standing-none n missing ns ss others ∙ undefined s good e
+        ap (recordFor LWO2) (standing-first n none (written n s) (definedIn ns ss) true (same-refl n) ∙ standing-none n (some (written n s)) ns ss others) ∙ record-back s (eqb-true (s .defined) 1 e)
+    first false e good others = ap (recordFor LWO2) (standing-none n none ns ss others) ∙ undefined s good e
 
 -- what `goodMesh` says
 pub record Good (m : Mesh) : Type 0 where
@@ -213,16 +215,16 @@ good m ok = record { counts = eqb-true _ _ (every-at _ 0 ok); points = every-at 
 
 -- ---- the mesh
 
-mesh-back : (m : Mesh) → Good m → meshOf LWO2 (partsOf m) ≡ m
+mesh-back : (m : Mesh) → Good m → meshOf LWO2 (canonicalParts m) ≡ m
 unfolding meshOf
 mesh-back m g = λ i. record { points = a .points-are i; polygons = polygons-back m i; names = a .names-are i; surfaces = stand i }
   where
-    a : Adds (partsOf m) (m .points) (m .names) (definedIn (m .names) (m .surfaces))
+    a : Adds (canonicalParts m) (m .points) (m .names) (definedIn (m .names) (m .surfaces))
     a = adds-parts m
 
-    stand : map (λ n. standing LWO2 n missing (joined (map surfacesOf (partsOf m)))) (joined (map namesOf (partsOf m))) ≡ m .surfaces
+    stand : map (λ n. recordFor LWO2 (standing n none (joined (map surfacesOf (canonicalParts m))))) (joined (map namesOf (canonicalParts m))) ≡ m .surfaces
     stand = rw (a .names-are, a .surfaces-are) (surfaces-back [] (m .names) (m .surfaces) (g .names) (g .surfaces) (g .counts))
 
-pub outcome-back : (m : Mesh) → Good m → outcome (fine (LWO2, partsOf m)) ≡ gives m 0 0
-unfolding outcome
+pub outcome-back : (m : Mesh) → Good m → told LWO2 (fine (canonicalParts m)) ≡ gives m 0 0
+unfolding told
 outcome-back m g = let a = adds-parts m in rw (mesh-back m g, a .none-skipped, a .no-details)

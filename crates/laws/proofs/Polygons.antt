@@ -1,4 +1,4 @@
--- The runs that a canonical file cuts the polygons into: their parts make the polygons again, with their kinds and tags. Assumes nothing.
+-- The runs that a canonical file cuts the polygons into: their parts make the polygons again, with their kinds and tags.
 use Prim.Native.Nat.{ℕ, suc, _+_}
 use mathlib.Core.Path.{_≡_, refl, sym, ap, _∙_}
 use mathlib.Core.List.{List, [], _∷_, _++_, map, append-assoc, append-nil, map-id}
@@ -9,14 +9,14 @@ use lib.Dec.{eqb}
 use lib.ListN.{length, length-append}
 use lib.Seq.{append-snoc}
 use borrow.Author.Tests.{eqb-true, eq-eqb}
-use Rattle.format.specs.Bytes.{if_then_else_, all, joined, same}
-use Rattle.format.specs.Mesh.{Point, Polygon, Name, Surface, Mesh}
-use Rattle.format.specs.Bodies.{Part, points, names, polygons, tagging, surface}
+use Rattle.format.specs.Bytes.{if_then_else_, spelt, number, all, joined, same}
+use Rattle.format.specs.Mesh.{Point, Polygon, polygonOf, Name, Surface, Mesh}
+use Rattle.format.specs.Bodies.{Part, pointList, nameList, polygonList, tagging, surface}
 use Rattle.format.specs.Rules.{from, retag, tagged, polygonsIn}
 use Rattle.format.specs.Canonical.{pairsOf, ahead, runs}
 use Rattle.format.proofs.Facts.{all-first, all-rest}
-use Rattle.laws.proofs.Bodies.{bare, valuesOf}
-use Rattle.laws.proofs.Walk.{partsOf, unless, runParts, surfaceParts}
+use Rattle.laws.proofs.Bodies.{bare, surfaceTags, written}
+use Rattle.laws.proofs.Walk.{canonicalParts, unless, runParts, surfaceParts}
 
 -- ---- runs
 
@@ -58,13 +58,17 @@ kind-runs (p ∷ ps) = kind-ahead p (runs ps) (kind-runs ps)
 -- ---- tags
 
 retag-at : (before : List Polygon) (p : Polygon) (later : List Polygon) (n : ℕ)
-    → retag (length before) n (before ++ p ∷ later) ≡ before ++ record { kind = p .kind; surface = n; vertices = p .vertices } ∷ later
-unfolding retag
+    → retag (number (spelt "SURF")) (length before) n (before ++ p ∷ later) ≡ before ++ polygonOf (p .kind) n (p .vertices) ∷ later
+unfolding retag number
 retag-at [] p later n = refl
 retag-at (q ∷ before) p later n = ap (λ (l : List Polygon). q ∷ l) (retag-at before p later n)
 
+-- polygons with the tags of a PTAG of surfaces
+abbrev surfaced : List Polygon → List (ℕ × ℕ) → List Polygon
+surfaced ps ts = tagged ps (number (spelt "SURF")) ts
+
 -- the polygons before are done
-tagged-after : (k : ℕ) (before ps : List Polygon) → all (λ q. eqb (q .kind) k) ps ≡ true → tagged (before ++ map (bare k) ps) (pairsOf (length before) ps) ≡ before ++ ps
+tagged-after : (k : ℕ) (before ps : List Polygon) → all (λ q. eqb (q .kind) k) ps ≡ true → surfaced (before ++ map (bare k) ps) (pairsOf (length before) ps) ≡ before ++ ps
 unfolding pairsOf
 tagged-after k before [] ok = refl
 tagged-after k before (p ∷ ps) ok = go (eqb (p .surface) 0) refl (tagged-after k (before ++ p ∷ []) ps (all-rest _ p ps ok))
@@ -75,18 +79,18 @@ tagged-after k before (p ∷ ps) ok = go (eqb (p .surface) 0) refl (tagged-after
     long : length (before ++ p ∷ []) ≡ suc (length before)
     long = length-append before (p ∷ []) ∙ omega arith
 
-    whole : (n : ℕ) → n ≡ p .surface → record { kind = k; surface = n; vertices = p .vertices } ≡ p
+    whole : (n : ℕ) → n ≡ p .surface → polygonOf k n (p .vertices) ≡ p
     whole n e = rw (← kinds, e)
 
-    step : tagged (before ++ p ∷ [] ++ map (bare k) ps) (pairsOf (length (before ++ p ∷ [])) ps) ≡ before ++ p ∷ [] ++ ps
-        → tagged (before ++ p ∷ map (bare k) ps) (pairsOf (suc (length before)) ps) ≡ before ++ p ∷ ps
+    step : surfaced (before ++ p ∷ [] ++ map (bare k) ps) (pairsOf (length (before ++ p ∷ [])) ps) ≡ before ++ p ∷ [] ++ ps
+        → surfaced (before ++ p ∷ map (bare k) ps) (pairsOf (suc (length before)) ps) ≡ before ++ p ∷ ps
     step later = rw (append-snoc before p (map (bare k) ps), append-snoc before p ps, long) at later
 
-    go : (b : Bool) → eqb (p .surface) 0 ≡ b → tagged (before ++ p ∷ [] ++ map (bare k) ps) (pairsOf (length (before ++ p ∷ [])) ps) ≡ before ++ p ∷ [] ++ ps
-        → tagged (before ++ bare k p ∷ map (bare k) ps) ((if b then [] else (length before, p .surface) ∷ []) ++ pairsOf (suc (length before)) ps) ≡ before ++ p ∷ ps
+    go : (b : Bool) → eqb (p .surface) 0 ≡ b → surfaced (before ++ p ∷ [] ++ map (bare k) ps) (pairsOf (length (before ++ p ∷ [])) ps) ≡ before ++ p ∷ [] ++ ps
+        → surfaced (before ++ bare k p ∷ map (bare k) ps) ((if b then [] else (length before, p .surface) ∷ []) ++ pairsOf (suc (length before)) ps) ≡ before ++ p ∷ ps
     go true e later = rw (whole 0 (sym (eqb-true (p .surface) 0 e))) (step later)
     go false e later =
-        ap (λ (l : List Polygon). tagged l (pairsOf (suc (length before)) ps)) (retag-at before (bare k p) (map (bare k) ps) (p .surface)) ∙ rw (whole (p .surface) refl) (step later)
+        ap (λ (l : List Polygon). surfaced l (pairsOf (suc (length before)) ps)) (retag-at before (bare k p) (map (bare k) ps) (p .surface)) ∙ rw (whole (p .surface) refl) (step later)
 
 same-vertices : (vs : List ℕ) → map (λ v. 0 + v) vs ≡ vs
 same-vertices vs = simp zero-add (map-id vs)
@@ -107,10 +111,10 @@ run-parts end latest p r rest ok = ap (λ (l : List Polygon). latest ++ l) (go (
     kinds : all (λ q. eqb (q .kind) (p .kind)) (p ∷ r) ≡ true
     kinds = unfold all in rw (eq-eqb (p .kind) (p .kind) refl) ok
 
-    now : tagged bared (pairsOf 0 (p ∷ r)) ≡ p ∷ r
-    now = ap (λ (l : List Polygon). tagged l (pairsOf 0 (p ∷ r))) (from-zero (map (bare (p .kind)) (p ∷ r))) ∙ tagged-after (p .kind) [] (p ∷ r) kinds
+    now : surfaced bared (pairsOf 0 (p ∷ r)) ≡ p ∷ r
+    now = ap (λ (l : List Polygon). surfaced l (pairsOf 0 (p ∷ r))) (from-zero (map (bare (p .kind)) (p ∷ r))) ∙ tagged-after (p .kind) [] (p ∷ r) kinds
 
-    go : (ts : List (ℕ × ℕ)) → polygonsIn 0 end bared (unless tagging ts ++ rest) ≡ polygonsIn 0 end (tagged bared ts) rest
+    go : (ts : List (ℕ × ℕ)) → polygonsIn 0 end bared (unless surfaceTags ts ++ rest) ≡ polygonsIn 0 end (surfaced bared ts) rest
     go [] = refl
     go (t ∷ ts) = refl
 
@@ -121,7 +125,7 @@ surface-parts base end latest (n ∷ ns) [] = refl
 surface-parts base end latest (n ∷ ns) (s ∷ ss) = go (eqb (s .defined) 1) (surface-parts base end latest ns ss)
   where
     go : (b : Bool) → polygonsIn base end latest (surfaceParts ns ss) ≡ latest
-        → polygonsIn base end latest ((if b then surface n (joined (valuesOf s)) ∷ [] else []) ++ surfaceParts ns ss) ≡ latest
+        → polygonsIn base end latest ((if b then surface (written n s) ∷ [] else []) ++ surfaceParts ns ss) ≡ latest
     go true later = later
     go false later = later
 
@@ -135,7 +139,7 @@ runs-parts end latest ((p ∷ r) ∷ rs) rest keeps ok =
     ∙ run-parts end latest p r (joined (map runParts rs) ++ rest) (all-first oneKind (p ∷ r) rs ok)
     ∙ ap (λ (l : List Polygon). latest ++ l) (runs-parts end (p ∷ r) rs rest keeps (all-rest oneKind (p ∷ r) rs ok))
 
-pub polygons-back : (m : Mesh) → polygonsIn 0 0 [] (partsOf m) ≡ m .polygons
+pub polygons-back : (m : Mesh) → polygonsIn 0 0 [] (canonicalParts m) ≡ m .polygons
 polygons-back m = past-names (m .names) ∙ past-points (m .points)
   where
     rest : List Part
@@ -146,10 +150,10 @@ polygons-back m = past-names (m .names) ∙ past-points (m .points)
         runs-parts end [] (runs (m .polygons)) (surfaceParts (m .names) (m .surfaces)) (λ latest. surface-parts 0 end latest (m .names) (m .surfaces)) (kind-runs (m .polygons))
         ∙ joined-runs (m .polygons)
 
-    past-names : (ns : List Name) → polygonsIn 0 0 [] (unless names ns ++ (unless points (m .points) ++ rest)) ≡ polygonsIn 0 0 [] (unless points (m .points) ++ rest)
+    past-names : (ns : List Name) → polygonsIn 0 0 [] (unless nameList ns ++ (unless pointList (m .points) ++ rest)) ≡ polygonsIn 0 0 [] (unless pointList (m .points) ++ rest)
     past-names [] = refl
     past-names (n ∷ ns) = unfold polygonsIn in refl
 
-    past-points : (ps : List Point) → polygonsIn 0 0 [] (unless points ps ++ rest) ≡ m .polygons
+    past-points : (ps : List Point) → polygonsIn 0 0 [] (unless pointList ps ++ rest) ≡ m .polygons
     past-points [] = all-runs 0
     past-points (p ∷ ps) = unfold polygonsIn in all-runs (0 + suc (length ps))

@@ -15,16 +15,17 @@ use Rattle.format.specs.declared.Container.the-variants.{Surf, Blok, Attributes
 use Rattle.format.specs.declared.Fault.{Fault}
 use Rattle.format.specs.declared.Fault.the-variants.{BadHeader, WrongLength, ItemCut, StringOpen, SurfaceValue}
 use Rattle.format.specs.Bytes.{if_then_else_, _is_, byte, between, number, signed, absolute, negative, finite, over255, over256, all, empty, every, sum, joined}
-use Rattle.format.specs.Limits.{surfaceLimit, vertexLimit, lwobVertexLimit}
+use Rattle.format.specs.Limits.{surfaceLimit, lwo2VertexLimit, lwobVertexLimit}
 use Rattle.format.specs.Refusals.{numberOf}
-use Rattle.format.specs.Items.{Verdict, fine, fault, Got, Reader, _>>=_, _then_, give, _or_unless_, _and_, whole, times, upTo, many, item, uint, u2, i2, float, vx, long, string, toZero, stringSize}
+use Rattle.format.specs.Items.{Verdict, fine, fault, Got, Reader, _>>=_, _andThen_, give, _or_unless_, _followedBy_, whole, times, upTo, many, item, uint, u2, i2, float, vx, long, string, toZero, stringSize}
 use Rattle.format.specs.Chunks.{Chunk, headerOf, ofLength, sizeOf, lengthOf, wellFormed, chunkOf, sub, unjudged}
 use Rattle.format.specs.Mesh.{Point, pointWords, Polygon, FACE, PATCH, Name}
-use Rattle.format.specs.Surfaces.{Value, value, level, floatLevel, lwobValue, lwo2Value, sideNumber, attribute, blockType, blockHeader, block, held, nested, surfaceDepth}
-use Rattle.format.specs.Bodies.{Part, points, names, polygons, tagging, surface, skipped, point, pointsBody, newName, name, namesAfter, namesBody, vertex, lwobVertices, listed, detail, details, detailsAfter, face, facesBody, patch, patchesBody, countBits, lwo2Vertices, polygon, polygonKind, polygonsBody, pair, taggingBody, surfaceName, surfaceBody}
+use Rattle.format.specs.Surfaces.{Value, value, levelTag, floatLevel, lwobValue, lwo2Value, sideNumber, attribute, blockType, blockHeader, block, held, nested, surfaceDepth}
+use Rattle.format.specs.Bodies.{Part, pointList, nameList, polygonList, tagging, surface, skippedChunk, point, pointsBody, newName, name, namesAfter, namesBody, vertex, lwobVertices, inNameList, detail, details, detailsAfter, face, facesBody, patch, patchesBody, countBits, lwo2Vertices, polygon, polygonKind, polygonsBody, pair, taggingBody, surfaceStrings, surfaceBody}
 use Rattle.format.specs.Rules.{Before, there, count, when_read_, judge}
 use Rattle.format.specs.Written.{goodPolygon, noZero, goodNames}
 use Rattle.format.proofs.Facts.{every-at, all-first, all-rest, all-append-true, all-drop, all-part, between-true}
+use Rattle.format.proofs.ListedTags.{judge-cases}
 use Rattle.laws.proofs.GoodPolygons.{is-good}
 use Rattle.format.proofs.Levels.{colour-finite, level-finite}
 
@@ -78,22 +79,22 @@ module _ {B : Type 0} {most : ℕ} {A : Type 0} where
 
   obeys-then : {C : Type 0} {r : Reader C} {has : C → Bool} {good : A → Bool} (k : C → Reader A) → Obeys B most has r → ((x : C) → (B → has x ≡ true) → Obeys B most good (k x))
       → Obeys B most good (r >>= k)
-  unfolding _>>=_ _then_
+  unfolding _>>=_ _andThen_
   obeys-then {C} {r} {has} {good} k w later = record { each = λ at b i. by (r at b) (w .each at b i) }
     where
-      by : (v : Verdict (Got C)) → Obeyed B most has v → Obeyed B most good (v then λ y. k (y .value) (y .next) (y .left))
+      by : (v : Verdict (Got C)) → Obeyed B most has v → Obeyed B most good (v andThen λ y. k (y .value) (y .next) (y .left))
       by (fine y) o = later (y .value) (o .0) .each (y .next) (y .left) (o .1)
       by (fault why p) o = o
 
   obeys-unless : {r : Reader A} {has : A → Bool} (why : Fault) (ok : A → Bool) → ofChunk why ≡ true → Obeys B most has r → Obeys B most (λ x. has x && ok x) (r or why unless ok)
-  unfolding _or_unless_ _then_
+  unfolding _or_unless_ _andThen_
   obeys-unless {r} {has} why ok chunk w = record { each = λ at b i. by at (omega (arith, i .within)) (r at b) (w .each at b i) }
     where
       judged : (at : ℕ) → at ≤ most → (y : Got A) → Obeyed B most has (fine y) → (t : Bool) → ok (y .value) ≡ t → Obeyed B most (λ x. has x && ok x) (if t then fine y else fault why at)
       judged at l y o true e = (λ h. both (o .0 h) e, o .1)
       judged at l y o false e = record { of-chunk = chunk; within = l }
 
-      by : (at : ℕ) → at ≤ most → (v : Verdict (Got A)) → Obeyed B most has v → Obeyed B most (λ x. has x && ok x) (v then λ y. if ok (y .value) then fine y else fault why at)
+      by : (at : ℕ) → at ≤ most → (v : Verdict (Got A)) → Obeyed B most has v → Obeyed B most (λ x. has x && ok x) (v andThen λ y. if ok (y .value) then fine y else fault why at)
       by at l (fine y) o = judged at l y o (ok (y .value)) refl
       by at l (fault f p) o = o
 
@@ -111,7 +112,7 @@ module _ {B : Type 0} {most : ℕ} {A : Type 0} where
 
 module _ {B : Type 0} {most : ℕ} {A : Type 0} {r : Reader A} {good : A → Bool} (w : Obeys B most good r) where
   obeys-and : {rest : Reader (List A)} {goods : List A → Bool} (all-good : List A → Bool) → Obeys B most goods rest
-      → ((x : A) (xs : List A) → good x ≡ true → goods xs ≡ true → all-good (x ∷ xs) ≡ true) → Obeys B most all-good (r and rest)
+      → ((x : A) (xs : List A) → good x ≡ true → goods xs ≡ true → all-good (x ∷ xs) ≡ true) → Obeys B most all-good (r followedBy rest)
   obeys-and all-good v so = obeys-then _ w (λ x hx. obeys-then _ v (λ xs hxs. obeys-give (λ h. so x xs (hx h) (hxs h))))
 
   -- so many of them
@@ -138,14 +139,14 @@ Judged B most good (fine x) = B → good x ≡ true
 Judged B most good (fault why p) = Faulty most why p
 
 obeys-whole : {A B : Type 0} {most header : ℕ} {r : Reader A} {good : A → Bool} → Obeys B most good r → header ≤ most → (at : ℕ) (b : List ℕ) → Inside B most at b → Judged B most good (whole header r at b)
-unfolding whole _then_ numberOf
+unfolding whole _andThen_ numberOf
 obeys-whole {A} {B} {most} {header} {r} {good} w l at b i = by (r at b) (w .each at b i)
   where
     used : (x : A) (t : Bool) → (B → good x ≡ true) → Judged B most good (if t then fine x else fault WrongLength header)
     used x true g = g
     used x false g = record { of-chunk = refl; within = l }
 
-    by : (v : Verdict (Got A)) → Obeyed B most good v → Judged B most good (v then λ g. if empty (g .left) then fine (g .value) else fault WrongLength header)
+    by : (v : Verdict (Got A)) → Obeyed B most good v → Judged B most good (v andThen λ g. if empty (g .left) then fine (g .value) else fault WrongLength header)
     by (fine g) o = used (g .value) (empty (g .left)) (o .0)
     by (fault why p) o = o
 
@@ -232,10 +233,10 @@ module _ {B : Type 0} {most : ℕ} where
   -- ---- sub-chunks
 
   obeys-sub : {A : Type 0} {good : A → Bool} (inside : ℕ → Reader A) → ((t : ℕ) → Obeys B most good (inside t)) → Obeys B most good (sub inside)
-  unfolding sub chunkOf wellFormed sizeOf _then_ numberOf
+  unfolding sub chunkOf wellFormed sizeOf _andThen_ numberOf
   obeys-sub {A} {good} inside w = record { each = λ at b i. by at b i (wellFormed 2 b) refl }
     where
-      after : (v : Verdict A) (next : ℕ) (left : List ℕ) → Judged B most good v → Inside B most next left → Obeyed B most good (v then λ a. give a next left)
+      after : (v : Verdict A) (next : ℕ) (left : List ℕ) → Judged B most good v → Inside B most next left → Obeyed B most good (v andThen λ a. give a next left)
       after (fine x) next left g i = (g, i)
       after (fault why p) next left g i = g
 
@@ -243,7 +244,7 @@ module _ {B : Type 0} {most : ℕ} where
       found at b = record { value = record { tag = number (take 4 b); body = take (lengthOf 2 b) (drop 6 b) }; next = at + sizeOf 2 (lengthOf 2 b); left = drop (sizeOf 2 (lengthOf 2 b)) b }
 
       by : (at : ℕ) (b : List ℕ) → Inside B most at b → (t : Bool) → wellFormed 2 b ≡ t
-          → Obeyed B most good ((if t then fine (found at b) else fault BadHeader at) then λ c. whole at (inside (c .value .tag)) (at + 6) (c .value .body) then λ a. give a (c .next) (c .left))
+          → Obeyed B most good ((if t then fine (found at b) else fault BadHeader at) andThen λ c. whole at (inside (c .value .tag)) (at + 6) (c .value .body) andThen λ a. give a (c .next) (c .left))
       by at b i false ok = record { of-chunk = refl; within = omega (arith, i .within) }
       by at b i true ok =
           let n = lengthOf 2 b in
@@ -255,8 +256,8 @@ module _ {B : Type 0} {most : ℕ} where
 
 -- a value of which a record can be made
 abbrev pub goodValue : Kind → Value → Bool
-goodValue LWOB v = if v .tag is "COLR" then all finite (v .words) else if level (v .tag) then all finite (v .words) else if floatLevel (v .tag) then all finite (v .words) else true
-goodValue LWO2 v = if v .tag is "COLR" then all finite (v .words) else if level (v .tag) then all finite (v .words) else if v .tag is "SIDE" then all sideNumber (v .words) else true
+goodValue LWOB v = if v .tag is "COLR" then all finite (v .words) else if levelTag (v .tag) then all finite (v .words) else if floatLevel (v .tag) then all finite (v .words) else true
+goodValue LWO2 v = if v .tag is "COLR" then all finite (v .words) else if levelTag (v .tag) then all finite (v .words) else if v .tag is "SIDE" then all sideNumber (v .words) else true
 
 -- the values of the sub-chunks of a SURF; a block gives none that are kept
 abbrev goodIn : Container → List Value → Bool
@@ -285,7 +286,7 @@ module _ {B : Type 0} {most : ℕ} where
   obeys-lwob-value t =
       obeys-if (t is "COLR")
       (λ e. obeys-length _ _ (obeys-then _ (obeys-item 4) (λ bs has. obeys-give (λ h. rw e (both (colours-finite (take 3 bs) (all-part byte bs 0 3 (and-eq-true-iff (eqb (length bs) 4) (all byte bs) .0 (has h) .1))) refl)))))
-      (λ e₁. obeys-if (level t)
+      (λ e₁. obeys-if (levelTag t)
       (λ e. obeys-length _ _ (obeys-then _ obeys-i2 (λ z has. obeys-give (λ h. rw (e₁, e) (both (both (level-finite z (leb-true (absolute z) 32768 (has h))) refl) refl)))))
       (λ e₂. obeys-if (floatLevel t)
       (λ e. obeys-length _ _ (obeys-then _ obeys-float (λ x has. obeys-give (λ h. rw (e₁, e₂, e) (both (both (has h) refl) refl)))))
@@ -296,7 +297,7 @@ module _ {B : Type 0} {most : ℕ} where
   obeys-lwo2-value t =
       obeys-if (t is "COLR")
       (λ e. obeys-then _ obeys-float (λ r hr. obeys-then _ obeys-float (λ g hg. obeys-then _ obeys-float (λ b hb. obeys-then _ obeys-vx (λ v hv. obeys-give (λ h. rw e (both (both (hr h) (both (hg h) (both (hb h) refl))) refl)))))))
-      (λ e₁. obeys-if (level t)
+      (λ e₁. obeys-if (levelTag t)
       (λ e. obeys-then _ obeys-float (λ x has. obeys-then _ obeys-vx (λ v hv. obeys-give (λ h. rw (e₁, e) (both (both (has h) refl) refl)))))
       (λ e₂. obeys-if (t is "SIDE")
       (λ e. obeys-length _ _ (obeys-then _ (obeys-unless _ sideNumber refl (obeys-uint 2)) (λ n has. obeys-give (λ h. rw (e₁, e₂, e) (both (both (has h) refl) refl)))))
@@ -343,12 +344,12 @@ module _ {B : Type 0} {most : ℕ} where
 
 -- What a chunk contributes is good, after what stands before it.
 abbrev pub goodPart : Kind → Before → Part → Bool
-goodPart kind b (points ps) = all (λ p. all finite (pointWords p)) ps
-goodPart kind b (names ns) = not (there (b .names)) && goodNames [] ns
-goodPart kind b (polygons ps n) = all (goodPolygon (count (b .points)) (count (b .names))) ps
-goodPart kind b (tagging ts) = all (λ t. between 1 (count (b .names)) (t .1) && leb (t .1) surfaceLimit) ts
-goodPart kind b (surface n vs) = all (goodValue kind) vs
-goodPart kind b skipped = true
+goodPart kind b (pointList ps) = all (λ p. all finite (pointWords p)) ps
+goodPart kind b (nameList ns) = not (there (b .names)) && goodNames [] ns
+goodPart kind b (polygonList ps n) = all (goodPolygon (count (b .points)) (count (b .names))) ps
+goodPart kind b (tagging t ts) = all (λ t. between 1 (count (b .names)) (t .1) && leb (t .1) surfaceLimit) ts
+goodPart kind b (surface s) = all (goodValue kind) (s .values)
+goodPart kind b skippedChunk = true
 
 module _ {B : Type 0} {most : ℕ} where
   obeys-points : (kind : Kind) (b : Before) → Obeys B most (goodPart kind b) (pointsBody kind)
@@ -384,7 +385,7 @@ counted limit pointCount n vs range e =
     both (ap (between 1 limit) (eqb-true (length vs) n (so .0)) ∙ range) (so .1)
 
 -- with vertices that one may have, a kind and a surface number
-polygon-good : (limit pointCount nameCount : ℕ) (p : Polygon) → limit ≤ vertexLimit → goodVertices limit pointCount (p .vertices) ≡ true → between FACE PATCH (p .kind) ≡ true → p .surface ≤ nameCount → p .surface ≤ surfaceLimit
+polygon-good : (limit pointCount nameCount : ℕ) (p : Polygon) → limit ≤ lwo2VertexLimit → goodVertices limit pointCount (p .vertices) ≡ true → between FACE PATCH (p .kind) ≡ true → p .surface ≤ nameCount → p .surface ≤ surfaceLimit
     → goodPolygon pointCount nameCount p ≡ true
 polygon-good limit pointCount nameCount p l vs kind few small =
     let so = and-eq-true-iff (between 1 limit (length (p .vertices))) (all (λ v. ltb v pointCount) (p .vertices)) .0 vs in
@@ -397,7 +398,7 @@ all-map p f [] e = refl
 all-map p f (x ∷ xs) e = let so = and-eq-true-iff (p (f x)) (all (λ x. p (f x)) xs) .0 e in both (so .0) (all-map p f xs (so .1))
 
 -- a surface number that names one of the names
-named : (pointCount nameCount : ℕ) (z : ℤ) (p : Polygon) → goodVertices lwobVertexLimit pointCount (p .vertices) ≡ true → between FACE PATCH (p .kind) ≡ true → p .surface ≡ absolute z → narrow z ≡ true → listed nameCount z ≡ true
+named : (pointCount nameCount : ℕ) (z : ℤ) (p : Polygon) → goodVertices lwobVertexLimit pointCount (p .vertices) ≡ true → between FACE PATCH (p .kind) ≡ true → p .surface ≡ absolute z → narrow z ≡ true → inNameList nameCount z ≡ true
     → goodPolygon pointCount nameCount p ≡ true
 named pointCount nameCount z p vs kind same few l =
     let range = between-true 1 nameCount (absolute z) l in
@@ -429,9 +430,9 @@ module _ {B : Type 0} {most : ℕ} (pointCount nameCount : ℕ) where
   obeys-faces kind b is-points is-names =
       obeys-then _
       (obeys-many (obeys-then {good = λ (f : Polygon × ℕ). goodPolygon pointCount nameCount (f .0)} _ obeys-lwob-vertices
-      (λ vs hvs. obeys-then _ (obeys-unless _ (listed nameCount) refl obeys-i2)
+      (λ vs hvs. obeys-then _ (obeys-unless _ (inNameList nameCount) refl obeys-i2)
       (λ z hz. obeys-then _ (obeys-details z)
-      (λ n hn. obeys-give (λ h. let so = and-eq-true-iff (narrow z) (listed nameCount z) .0 (hz h) in named pointCount nameCount z _ (hvs h) refl refl (so .0) (so .1)))))))
+      (λ n hn. obeys-give (λ h. let so = and-eq-true-iff (narrow z) (inNameList nameCount z) .0 (hz h) in named pointCount nameCount z _ (hvs h) refl refl (so .0) (so .1)))))))
       (λ fs has. obeys-give (λ h. rw (is-points, is-names) (all-map (goodPolygon pointCount nameCount) (λ (f : Polygon × ℕ). f .0) fs (has h))))
 
   obeys-patches : (kind : Kind) (b : Before) → count (b .points) ≡ pointCount → count (b .names) ≡ nameCount → Obeys B most (goodPart kind b) (patchesBody pointCount nameCount)
@@ -439,17 +440,17 @@ module _ {B : Type 0} {most : ℕ} (pointCount nameCount : ℕ) where
   obeys-patches kind b is-points is-names =
       obeys-then _
       (obeys-many (obeys-then {good = goodPolygon pointCount nameCount} _ obeys-lwob-vertices
-      (λ vs hvs. obeys-then _ (obeys-unless _ (λ z. not (negative z) && listed nameCount z) refl obeys-i2)
+      (λ vs hvs. obeys-then _ (obeys-unless _ (λ z. not (negative z) && inNameList nameCount z) refl obeys-i2)
       (λ z hz. obeys-give
-      (λ h. let so = and-eq-true-iff (narrow z) (not (negative z) && listed nameCount z) .0 (hz h) in let two = and-eq-true-iff (not (negative z)) (listed nameCount z) .0 (so .1) in named pointCount nameCount z _ (hvs h) refl refl (so .0) (two .1))))))
+      (λ h. let so = and-eq-true-iff (narrow z) (not (negative z) && inNameList nameCount z) .0 (hz h) in let two = and-eq-true-iff (not (negative z)) (inNameList nameCount z) .0 (so .1) in named pointCount nameCount z _ (hvs h) refl refl (so .0) (two .1))))))
       (λ ps has. obeys-give (λ h. rw (is-points, is-names) (has h)))
 
-  obeys-lwo2-vertices : Obeys B most (goodVertices vertexLimit pointCount) (lwo2Vertices pointCount)
+  obeys-lwo2-vertices : Obeys B most (goodVertices lwo2VertexLimit pointCount) (lwo2Vertices pointCount)
   unfolding lwo2Vertices numberOf
   obeys-lwo2-vertices =
       obeys-then _ (obeys-unless _ (λ n. leb 1 (countBits n)) refl (obeys-uint 2))
       (λ n has. obeys-more (obeys-times (obeys-unless _ (λ v. ltb v pointCount) refl obeys-vx) (countBits n))
-      (λ vs h e. counted vertexLimit pointCount (countBits n) vs (both (has h) (le-leb (n % 1024) vertexLimit (omega arith))) e))
+      (λ vs h e. counted lwo2VertexLimit pointCount (countBits n) vs (both (has h) (le-leb (n % 1024) lwo2VertexLimit (omega arith))) e))
 
   obeys-polygons : (kind : Kind) (b : Before) → count (b .points) ≡ pointCount → Obeys B most (goodPart kind b) (polygonsBody pointCount)
   unfolding polygonsBody polygon numberOf
@@ -457,7 +458,7 @@ module _ {B : Type 0} {most : ℕ} (pointCount nameCount : ℕ) where
       obeys-then _ (obeys-unless _ _ refl (obeys-uint 4))
       (λ t ht. obeys-then _
       (obeys-many (obeys-then {good = goodPolygon pointCount (count (b .names))} _ obeys-lwo2-vertices
-      (λ vs hvs. obeys-give (λ h. polygon-good vertexLimit pointCount (count (b .names)) _ (omega arith) (hvs h) (kind-good t) (omega arith) (omega arith)))))
+      (λ vs hvs. obeys-give (λ h. polygon-good lwo2VertexLimit pointCount (count (b .names)) _ (omega arith) (hvs h) (kind-good t) (omega arith) (omega arith)))))
       (λ ps has. obeys-give (λ h. rw is-points (has h))))
 
   obeys-tagging : (kind : Kind) (b : Before) → count (b .names) ≡ nameCount → Obeys B most (goodPart kind b) (taggingBody pointCount nameCount)
@@ -475,43 +476,38 @@ module _ {B : Type 0} {most : ℕ} (pointCount nameCount : ℕ) where
 
 module _ {B : Type 0} {most : ℕ} where
   obeys-surface : (kind : Kind) (b : Before) → Obeys B most (goodPart kind b) (surfaceBody kind)
-  unfolding surfaceBody surfaceName
+  unfolding surfaceBody surfaceStrings
   obeys-surface kind b = obeys-then _ (called kind) (λ n h. obeys-then _ (obeys-nested surfaceDepth (Surf kind)) (λ vs has. obeys-give has))
     where
-      called : (kind : Kind) → Obeys B most any (surfaceName kind)
-      called LWOB = obeys-more obeys-string (λ n h e. refl)
+      called : (kind : Kind) → Obeys B most any (surfaceStrings kind)
+      called LWOB = obeys-then _ obeys-string (λ n h. obeys-give (λ h. refl))
       called LWO2 = obeys-then _ obeys-string (λ n h. obeys-then _ obeys-string (λ source h. obeys-give (λ h. refl)))
 
 -- ---- chunks
 
 -- a chunk's judgement, after what stands before it
-record Sound (B : Type 0) (kind : Kind) (b : Before) (judging : List ℕ → Verdict Part) : Type 0 where
+record JudgesWell (B : Type 0) (kind : Kind) (b : Before) (judging : List ℕ → Verdict Part) : Type 0 where
   each : (body : List ℕ) → (B → all byte body ≡ true) → Judged B (8 + length body) (goodPart kind b) (judging body)
 
 module _ {B : Type 0} {kind : Kind} {b : Before} where
-  sound-when : {r : Reader Part} (ok : Bool) → (ok ≡ true → (most : ℕ) → Obeys B most (goodPart kind b) r) → Sound B kind b (when ok read r)
+  sound-when : {r : Reader Part} (ok : Bool) → (ok ≡ true → (most : ℕ) → Obeys B most (goodPart kind b) r) → JudgesWell B kind b (when ok read r)
   unfolding when_read_ numberOf
   sound-when true w = record { each = λ body bytes. obeys-whole (w refl (8 + length body)) (omega arith) 8 body (record { within = omega arith; bytes = bytes }) }
   sound-when false w = record { each = λ body bytes. record { of-chunk = refl; within = omega arith } }
 
-  sound-if : (t : Bool) {f g : List ℕ → Verdict Part} → Sound B kind b f → Sound B kind b g → Sound B kind b (if t then f else g)
-  sound-if true w v = w
-  sound-if false w v = v
-
-sound-judge : {B : Type 0} (kind : Kind) (b : Before) (t : ℕ) → Sound B kind b (judge kind b t)
-unfolding judge
-sound-judge LWOB b t =
-    sound-if (t is "PNTS") (sound-when _ (λ ok m. obeys-points LWOB b))
-    (sound-if (t is "SRFS") (sound-when _ (λ first m. obeys-names LWOB b first))
-    (sound-if (t is "POLS") (sound-when _ (λ ok m. obeys-faces _ _ LWOB b refl refl))
-    (sound-if (t is "PCHS") (sound-when _ (λ ok m. obeys-patches _ _ LWOB b refl refl))
-    (sound-if (t is "SURF") (sound-when _ (λ ok m. obeys-surface LWOB b)) (record { each = λ body bytes h. refl })))))
-sound-judge LWO2 b t =
-    sound-if (t is "PNTS") (sound-when _ (λ ok m. obeys-points LWO2 b))
-    (sound-if (t is "TAGS") (sound-when _ (λ first m. obeys-names LWO2 b first))
-    (sound-if (t is "POLS") (sound-when _ (λ ok m. obeys-polygons _ 0 LWO2 b refl))
-    (sound-if (t is "PTAG") (sound-when _ (λ ok m. obeys-tagging _ _ LWO2 b refl))
-    (sound-if (t is "SURF") (sound-when _ (λ ok m. obeys-surface LWO2 b)) (record { each = λ body bytes h. refl })))))
+sound-judge : {B : Type 0} (kind : Kind) (b : Before) (t : ℕ) → JudgesWell B kind b (judge kind b t)
+sound-judge {B} kind b t =
+    judge-cases (JudgesWell B kind b) kind b t
+    (record {
+      of-points = λ ok e. sound-when _ (λ ok m. obeys-points kind b);
+      of-names = λ e. sound-when _ (λ first m. obeys-names kind b first);
+      of-faces = λ e. sound-when _ (λ ok m. obeys-faces _ _ kind b refl refl);
+      of-patches = λ e. sound-when _ (λ ok m. obeys-patches _ _ kind b refl refl);
+      of-polygons = λ e. sound-when _ (λ ok m. obeys-polygons _ 0 kind b refl);
+      of-tagging = λ e. sound-when _ (λ ok m. obeys-tagging _ _ kind b refl);
+      of-surface = λ e. sound-when _ (λ ok m. obeys-surface kind b);
+      of-skipped = record { each = λ body bytes h. refl };
+    })
 
 -- a fault of a chunk is one of a chunk's, and lies within it
 pub fault-in-chunk : (kind : Kind) (b : Before) (t : ℕ) (body : List ℕ) {why : Fault} {p : ℕ} → judge kind b t body ≡ fault why p → Faulty (8 + length body) why p

@@ -1,4 +1,4 @@
--- What a reader reads back. `Reads r w x`: from the bytes w, in front of any rest, r reads x. `Ends r w x`: from w alone. Assumes nothing.
+-- What a reader reads back. `Reads r w x`: from the bytes w, in front of any rest, r reads x. `Ends r w x`: from w alone.
 use Prim.Native.Nat.{ℕ, zero, suc, _+_, _≤_, _<_}
 use mathlib.Core.Path.{_≡_, sym, ap}
 use mathlib.Core.List.{List, [], _∷_, _++_, map, append-assoc, append-nil, map-id}
@@ -8,7 +8,7 @@ use native.Mathlib.Nat.{add-zero, add-assoc}
 use lib.ListN.{length, length-append}
 use Rattle.format.specs.Bytes.{joined, all}
 use Rattle.format.specs.declared.Fault.{Fault}
-use Rattle.format.specs.Items.{_then_, Verdict, fine, Got, Reader, give, _>>=_, _or_unless_, whole, times, upTo, many}
+use Rattle.format.specs.Items.{_andThen_, Verdict, fine, Got, Reader, give, _>>=_, _or_unless_, whole, times, upTo, many}
 use Rattle.format.proofs.Facts.{all-first, all-rest}
 
 -- ---- what a reader reads back
@@ -31,30 +31,30 @@ pub ends : {A : Type 0} {r : Reader A} {w : List ℕ} {x : A} → Reads r w x �
 ends h = record { here = λ at. rw append-nil at (h .here at []) }
 
 pub reads-then : {A B : Type 0} {r : Reader A} (f : A → Reader B) {v w : List ℕ} {x : A} {y : B} → Reads r v x → Reads (f x) w y → Reads (r >>= f) (v ++ w) y
-unfolding _>>=_ _then_
+unfolding _>>=_ _andThen_
 reads-then f {v} {w} h k = record {
   here = λ at rest. rw (append-assoc v w rest, h .here at (w ++ rest), k .here (at + length v) rest, length-append v w, add-assoc);
 }
 
 pub ends-then : {A B : Type 0} {r : Reader A} (f : A → Reader B) {v w : List ℕ} {x : A} {y : B} → Reads r v x → Ends (f x) w y → Ends (r >>= f) (v ++ w) y
-unfolding _>>=_ _then_
+unfolding _>>=_ _andThen_
 ends-then f {v} {w} h k = record { here = λ at. rw (h .here at w, k .here (at + length v), length-append v w, add-assoc) }
 
 -- the same with a value made of what was read
 pub reads-as : {A B : Type 0} {r : Reader A} (f : A → B) {w : List ℕ} {x : A} → Reads r w x → Reads (r >>= λ a. give (f a)) w (f x)
-unfolding _>>=_ _then_
+unfolding _>>=_ _andThen_
 reads-as f h = record { here = λ at rest. rw (h .here at rest) }
 
 pub ends-as : {A B : Type 0} {r : Reader A} (f : A → B) {w : List ℕ} {x : A} → Ends r w x → Ends (r >>= λ a. give (f a)) w (f x)
-unfolding _>>=_ _then_
+unfolding _>>=_ _andThen_
 ends-as f h = record { here = λ at. rw (h .here at) }
 
 pub reads-unless : {A : Type 0} {r : Reader A} (why : Fault) (ok : A → Bool) {w : List ℕ} {x : A} → Reads r w x → ok x ≡ true → Reads (r or why unless ok) w x
-unfolding _or_unless_ _then_
+unfolding _or_unless_ _andThen_
 reads-unless why ok h e = record { here = λ at rest. rw (h .here at rest, e) }
 
 pub wholly : {A : Type 0} {r : Reader A} {w : List ℕ} {x : A} (header at : ℕ) → Ends r w x → whole header r at w ≡ fine x
-unfolding whole _then_
+unfolding whole _andThen_
 wholly header at h = rw (h .here at)
 
 -- ---- rows: entries, each not empty, and what each is read as

@@ -15,8 +15,7 @@ use Rattle.format.specs.Refusals.{numberOf, noRoom}
 use Rattle.format.specs.Items.{Verdict, fine, fault}
 use Rattle.format.specs.declared.Kind.{Kind}
 use Rattle.format.specs.Mesh.{Mesh, pointSize, polygonSize, recordSize, Tables, Needs, needs}
-use Rattle.format.specs.Bodies.{Part}
-use Rattle.format.specs.Rules.{Outcome, refused, gives, judged, meshOf, outcome, rules}
+use Rattle.format.specs.Rules.{PartAt, partsOf, Outcome, refused, gives, judged, meshOf, outcome, rules}
 use Rattle.format.specs.Answer.{fits, Answer, answer}
 use Rattle.format.proofs.Facts.{impossible, every-at, between-true}
 use Rattle.laws.specs.Conditions.{Longer}
@@ -91,18 +90,18 @@ pub refused-range : (s : List ℕ) {number place : ℕ} → rules s ≡ refused 
 unfolding rules outcome
 refused-range s {number} e = by (judged s) e
   where
-    by : {place : ℕ} (v : Verdict (Kind × List Part)) → outcome v ≡ refused number place → (1 ≤ number) × (number ≤ 15)
+    by : {place : ℕ} (v : Verdict (Kind × List PartAt)) → outcome v ≡ refused number place → (1 ≤ number) × (number ≤ 15)
     by (fine f) e = impossible cc
     by (fault why at) e = let same : numberOf why ≡ number = cc in between-true 1 15 number (ap (between 1 15) (sym same) ∙ number-range why)
 
 -- what was judged is answered with 16 only where it is a mesh that the tables do not hold
-no-room-of : (v : Verdict (Kind × List Part)) (t : Tables) → answer (outcome v) t .number ≡ noRoom → NoRoom (outcome v) t
+no-room-of : (v : Verdict (Kind × List PartAt)) (t : Tables) → answer (outcome v) t .number ≡ noRoom → NoRoom (outcome v) t
 unfolding outcome answer
 no-room-of (fault why at) t e = absurd (omega (arith, between-true 1 15 (numberOf why) (number-range why)))
 no-room-of (fine f) t e = record { mesh = m; skipped = _; details = _; given = refl; short = go (fits (needs m) t) e }
   where
     m : Mesh
-    m = meshOf (f .0) (f .1)
+    m = meshOf (f .0) (partsOf (f .1))
 
     go : (b : Bool) → _≡_ {A = ℕ} (if b then 0 else noRoom) noRoom → b ≡ false
     go true e = absurd (omega arith)

@@ -1,4 +1,4 @@
--- The round trip: the rules give the canonical file of a mesh that mesh again, with nothing skipped and no details. Assumes nothing.
+-- The round trip: the rules give the canonical file of a mesh that mesh again, with nothing skipped and no details.
 use Prim.Native.Nat.{ℕ, _+_, _^_, _≤_}
 use mathlib.Core.Path.{_≡_, refl, _∙_}
 use mathlib.Core.List.{List, [], _∷_, map, append-nil}
@@ -8,7 +8,7 @@ use native.Mathlib.Omega.{arith}
 use lib.ListN.{length}
 use Rattle.format.specs.Bytes.{number, finite, every, all, sum, joined}
 use Rattle.format.specs.Limits.{fileLimit}
-use Rattle.format.specs.Items.{_then_, _>>=_, _or_unless_, whole, upTo, many, item, uint, float}
+use Rattle.format.specs.Items.{_andThen_, _>>=_, _or_unless_, whole, upTo, many, item, uint, float}
 use Rattle.format.specs.declared.Kind.the-variants.{LWO2}
 use Rattle.format.specs.Chunks.{finished, sizeOf, lengthOf, wellFormed, chunkOf, ofLength, link, split, chunks}
 use Rattle.format.specs.Mesh.{pointWords, levels, Mesh}
@@ -19,14 +19,14 @@ use Rattle.format.specs.Written.{goodNames, goodMesh}
 use Rattle.format.proofs.Facts.{all-and}
 use Rattle.laws.proofs.Tiles.{inFront, chunks-row}
 use Rattle.laws.proofs.Bodies.{goodPoint}
-use Rattle.laws.proofs.Walk.{partsOf, Judged, row-judged, walk-judged, asRead, on-names, on-points, on-runs, on-surfaces, counted}
+use Rattle.laws.proofs.Walk.{canonicalParts, Judged, row-judged, walk-judged, asRead, on-names, on-points, on-runs, on-surfaces, counted}
 use Rattle.laws.proofs.Polygons.{joined-runs}
 use Rattle.laws.proofs.Meshes.{Good, good, outcome-back}
 use Rattle.laws.proofs.Form.{rules-form}
 use Rattle.laws.proofs.Lengths.{Counts, counts, chunks-within}
 
 -- the chunks of its canonical file are judged fine, one after the other
-judged-chunks : (m : Mesh) → Good m → Counts m fileLimit → Judged start (canonicalChunks m) (partsOf m)
+judged-chunks : (m : Mesh) → Good m → Counts m fileLimit → Judged start (canonicalChunks m) (canonicalParts m)
 unfolding canonicalChunks
 judged-chunks m g c =
     on-names (m .names) (g .names)
@@ -36,12 +36,12 @@ judged-chunks m g c =
 
 -- every good mesh whose canonical file is within the limit is given back by the rules
 pub round-trip : (m : Mesh) → goodMesh m ≡ true → length (canonical m) ≤ fileLimit → rules (canonical m) ≡ gives m 0 0
-unfolding canonical outcome _then_
+unfolding canonical
 round-trip m ok short =
     let g : Good m = good m ok in
     let c : Counts m fileLimit = counts m fileLimit short in
     let within = chunks-within m fileLimit short in
-    let all-judged : Judged start (canonicalChunks m) (partsOf m) = judged-chunks m g c in
+    let all-judged : Judged start (canonicalChunks m) (canonicalParts m) = judged-chunks m g c in
     let rest : List ℕ = joined (map encoded (canonicalChunks m)) in
     let found : chunks rest ≡ inFront (map asRead (canonicalChunks m)) finished = unfold chunks split in rw append-nil at (chunks-row (row-judged all-judged (omega arith)) []) in
     rules-form LWO2 rest within ∙ rw (found, walk-judged 12 all-judged) (outcome-back m g)

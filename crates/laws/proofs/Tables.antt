@@ -1,4 +1,4 @@
--- Tables and meshes: tables that are a mesh are the tables of that mesh, and every mesh is the mesh of its tables. Assumes nothing.
+-- Tables and meshes: tables that are a mesh are the tables of that mesh, and every mesh is the mesh of its tables.
 use Prim.Native.Nat.{ℕ, zero, suc, _+_, _*_, _/_, _%_, _≤_, _<_}
 use mathlib.Core.Path.{_≡_, refl, sym, ap, _∙_}
 use mathlib.Core.List.{List, [], _∷_, map, map-map, map-id}

@@ -1,4 +1,4 @@
--- Bytes that are whole chunks, one after the other: the rules find just these chunks in them, and then those of what stands behind. Assumes nothing.
+-- Bytes that are whole chunks, one after the other: the rules find just these chunks in them, and then those of what stands behind.
 use Prim.Native.Nat.{ℕ}
 use mathlib.Core.Path.{_≡_, refl}
 use mathlib.Core.List.{List, [], _∷_, _++_, append-assoc}

@@ -1,7 +1,7 @@
--- The walk over the chunks of a canonical file: each is judged fine, and what each contributes. Assumes nothing.
+-- The walk over the chunks of a canonical file: each is judged fine, and what each contributes.
 use Prim.Native.Nat.{ℕ, suc, _+_, _^_, _≤_, _<_}
 use Prim.Native.String.{String}
-use mathlib.Core.Path.{_≡_, refl}
+use mathlib.Core.Path.{_≡_, refl, _∙_}
 use mathlib.Core.List.{List, [], _∷_, _++_, map, append-assoc}
 use mathlib.Core.Bool.{Bool, true, false}
 use mathlib.Core.Option.{Option, none, some}
@@ -10,29 +10,31 @@ use lib.Dec.{ltb, eqb}
 use lib.ListN.{length, length-append, length-map}
 use borrow.Author.Tests.{ltb-true}
 use Rattle.format.specs.Bytes.{if_then_else_, number, spelt, all, joined}
-use Rattle.format.specs.Items.{fine, _then_}
+use Rattle.format.specs.Items.{fine, _andThen_}
 use Rattle.format.specs.declared.Kind.{Kind}
 use Rattle.format.specs.declared.Kind.the-variants.{LWO2}
 use Rattle.format.specs.Chunks.{Chunk, sizeOf, chunkOf, Chunks, finished, chunk}
 use Rattle.format.specs.Mesh.{Point, Polygon, Name, Surface, Mesh, levels}
-use Rattle.format.specs.Bodies.{Part, points, names, polygons, tagging, surface}
-use Rattle.format.specs.Rules.{Before, start, after, count, when_read_, judge, located, walk}
+use Rattle.format.specs.Bodies.{Part, pointList, nameList, polygonList, surface}
+use Rattle.format.specs.Rules.{Before, start, after, count, when_read_, judge, located}
+use Rattle.format.specs.Contracts.{walkParts}
 use Rattle.format.specs.Canonical.{stringBytes, pointBytes, polygonBytes, typeOf, pairsOf, pairBytes, surfaceBytes, runs, unlessEmpty, runChunks, surfaceChunks, encoded}
 use Rattle.format.specs.Written.{goodPolygon, goodNames, goodSurface}
 use Rattle.format.proofs.Facts.{every-at, all-first, all-rest, all-append}
+use Rattle.format.proofs.ChunkWalk.{parts-finished, parts-chunk}
 use Rattle.laws.proofs.Reading.{wholly, Row, none, more}
 use Rattle.laws.proofs.Chunks.{isTag, shorter, reads-chunk}
 use Rattle.laws.proofs.Tiles.{inFront}
 use Rattle.laws.proofs.GoodPolygons.{good-polygon}
-use Rattle.laws.proofs.Bodies.{goodPoint, ends-points, good-name, ends-names, bare, ends-run, ends-pairs, valuesOf, ends-surface}
+use Rattle.laws.proofs.Bodies.{goodPoint, ends-points, good-name, ends-names, bare, ends-run, surfaceTags, ends-pairs, written, ends-surface}
 
 -- ---- chunks judged one after the other
 
 -- one chunk that is judged fine, and then the chunks after it
 pub walk-on : (kind : Kind) (b : Before) (place t : ℕ) (body : List ℕ) (rest : Chunks) {part : Part} {parts : List Part} → judge kind b t body ≡ fine part
-    → walk kind (after b part) (place + sizeOf 4 (length body)) rest ≡ fine parts → walk kind b place (chunk t body rest) ≡ fine (part ∷ parts)
-unfolding walk located _then_
-walk-on kind b place t body rest judged later = rw (judged, later)
+    → walkParts kind (after b part) (place + sizeOf 4 (length body)) rest ≡ fine parts → walkParts kind b place (chunk t body rest) ≡ fine (part ∷ parts)
+unfolding located _andThen_
+walk-on kind b place t body rest judged later = parts-chunk kind b place t body rest ∙ rw (judged, later)
 
 -- chunks, as they are written, that are judged fine one after the other, and what they contribute
 pub data Judged : Before → List (String × List ℕ) → List Part → Type 0 where
@@ -53,9 +55,9 @@ row-judged (on {c = c} {cs = cs} good judged later) small =
     let less = shorter 4 (c .0) (c .1) good in
     more (reads-chunk 4 (c .0) (c .1) good (omega arith)) (omega arith) (row-judged later (omega arith))
 
-pub walk-judged : {b : Before} {cs : List (String × List ℕ)} {ps : List Part} (place : ℕ) → Judged b cs ps → walk LWO2 b place (inFront (map asRead cs) finished) ≡ fine ps
-unfolding walk inFront
-walk-judged place over = refl
+pub walk-judged : {b : Before} {cs : List (String × List ℕ)} {ps : List Part} (place : ℕ) → Judged b cs ps → walkParts LWO2 b place (inFront (map asRead cs) finished) ≡ fine ps
+unfolding inFront
+walk-judged {b} place over = parts-finished LWO2 b place
 walk-judged place (on {c = c} {cs = cs} good judged later) =
     walk-on LWO2 _ place _ (c .1) (inFront (map asRead cs) finished) judged (walk-judged (place + sizeOf 4 (length (c .1))) later)
 
@@ -65,27 +67,27 @@ walk-judged place (on {c = c} {cs = cs} good judged later) =
 abbrev pub state : Option ℕ → Option ℕ → Option ℕ → Before
 state ps gs ns = record { points = ps; polygons = gs; names = ns }
 
-judged-names : (ns : List Name) → goodNames [] ns ≡ true → judge LWO2 start (number (spelt "TAGS")) (joined (map stringBytes ns)) ≡ fine (names ns)
+judged-names : (ns : List Name) → goodNames [] ns ≡ true → judge LWO2 start (number (spelt "TAGS")) (joined (map stringBytes ns)) ≡ fine (nameList ns)
 unfolding judge when_read_ number
 judged-names ns ok = wholly 0 8 (ends-names ns ok)
 
-judged-points : (b : Before) (ps : List Point) → all goodPoint ps ≡ true → judge LWO2 b (number (spelt "PNTS")) (joined (map pointBytes ps)) ≡ fine (points ps)
+judged-points : (b : Before) (ps : List Point) → all goodPoint ps ≡ true → judge LWO2 b (number (spelt "PNTS")) (joined (map pointBytes ps)) ≡ fine (pointList ps)
 unfolding judge when_read_ number
 judged-points b ps ok = wholly 0 8 (ends-points ps ok)
 
 judged-run : (pointCount nameCount : ℕ) (gs ns : Option ℕ) → pointCount ≤ 2 ^ 24 → (p : Polygon) (r : List Polygon) → all (goodPolygon pointCount nameCount) (p ∷ r) ≡ true
-    → judge LWO2 (state (some pointCount) gs ns) (number (spelt "POLS")) (spelt (typeOf (p .kind)) ++ joined (map polygonBytes (p ∷ r))) ≡ fine (polygons (map (bare (p .kind)) (p ∷ r)) 0)
+    → judge LWO2 (state (some pointCount) gs ns) (number (spelt "POLS")) (spelt (typeOf (p .kind)) ++ joined (map polygonBytes (p ∷ r))) ≡ fine (polygonList (map (bare (p .kind)) (p ∷ r)) 0)
 unfolding judge when_read_ number
 judged-run pointCount nameCount gs ns few p r ok =
     wholly 0 8 (ends-run pointCount nameCount (p .kind) few (good-polygon pointCount nameCount p (all-first _ p r ok) .kinds) (p ∷ r) ok)
 
 judged-pairs : (pointCount polygonCount : ℕ) (pts ns : Option ℕ) → polygonCount ≤ 2 ^ 24 → (ps : List Polygon) → length ps ≤ polygonCount → all (goodPolygon pointCount (count ns)) ps ≡ true
-    → judge LWO2 (state pts (some polygonCount) ns) (number (spelt "PTAG")) (spelt "SURF" ++ joined (map pairBytes (pairsOf 0 ps))) ≡ fine (tagging (pairsOf 0 ps))
+    → judge LWO2 (state pts (some polygonCount) ns) (number (spelt "PTAG")) (spelt "SURF" ++ joined (map pairBytes (pairsOf 0 ps))) ≡ fine (surfaceTags (pairsOf 0 ps))
 unfolding judge when_read_ number
 judged-pairs pointCount polygonCount pts ns few ps fits ok = wholly 0 8 (ends-pairs pointCount polygonCount (count ns) few ps fits ok)
 
 judged-surface : (b : Before) (earlier : List Name) (n : Name) (ns : List Name) (s : Surface) → goodNames earlier (n ∷ ns) ≡ true → goodSurface s ≡ true
-    → judge LWO2 b (number (spelt "SURF")) (surfaceBytes n s) ≡ fine (surface n (joined (valuesOf s)))
+    → judge LWO2 b (number (spelt "SURF")) (surfaceBytes n s) ≡ fine (surface (written n s))
 unfolding judge when_read_ number goodSurface
 judged-surface b earlier n ns s names-ok ok = wholly 0 8 (ends-surface n s (good-name earlier n ns names-ok .no-zero) (every-at _ 2 ok) (every-at _ 1 ok))
 
@@ -115,27 +117,27 @@ on-unless tag type bytesOf part next [] good step judged later = later
 on-unless tag type bytesOf part next (x ∷ xs) good step judged later = on good judged (rw (step x xs) at later)
 
 pub on-names : {cs : List (String × List ℕ)} {ps : List Part} (ns : List Name) → goodNames [] ns ≡ true → Judged (state none none (counted ns)) cs ps
-    → Judged start (unlessEmpty "TAGS" "" stringBytes ns ++ cs) (unless names ns ++ ps)
+    → Judged start (unlessEmpty "TAGS" "" stringBytes ns ++ cs) (unless nameList ns ++ ps)
 unfolding all after
-on-names ns ok later = on-unless "TAGS" "" stringBytes names (λ ns. state none none (counted ns)) ns refl (λ n ns. refl) (judged-names ns ok) later
+on-names ns ok later = on-unless "TAGS" "" stringBytes nameList (λ ns. state none none (counted ns)) ns refl (λ n ns. refl) (judged-names ns ok) later
 
 pub on-points : {cs : List (String × List ℕ)} {ps : List Part} (nms : Option ℕ) (pts : List Point) → all goodPoint pts ≡ true → Judged (state (counted pts) none nms) cs ps
-    → Judged (state none none nms) (unlessEmpty "PNTS" "" pointBytes pts ++ cs) (unless points pts ++ ps)
+    → Judged (state none none nms) (unlessEmpty "PNTS" "" pointBytes pts ++ cs) (unless pointList pts ++ ps)
 unfolding all after
-on-points nms pts ok later = on-unless "PNTS" "" pointBytes points (λ pts. state (counted pts) none nms) pts refl (λ p ps. refl) (judged-points _ pts ok) later
+on-points nms pts ok later = on-unless "PNTS" "" pointBytes pointList (λ pts. state (counted pts) none nms) pts refl (λ p ps. refl) (judged-points _ pts ok) later
 
 on-pairs : {cs : List (String × List ℕ)} {ps : List Part} (pts : Option ℕ) (pointCount polygonCount : ℕ) (ns : List Name) (r : List Polygon)
     → length r ≤ polygonCount → polygonCount ≤ 2 ^ 24 → all (goodPolygon pointCount (length ns)) r ≡ true → Judged (state pts (some polygonCount) (counted ns)) cs ps
-    → Judged (state pts (some polygonCount) (counted ns)) (unlessEmpty "PTAG" "SURF" pairBytes (pairsOf 0 r) ++ cs) (unless tagging (pairsOf 0 r) ++ ps)
+    → Judged (state pts (some polygonCount) (counted ns)) (unlessEmpty "PTAG" "SURF" pairBytes (pairsOf 0 r) ++ cs) (unless surfaceTags (pairsOf 0 r) ++ ps)
 unfolding all after
 on-pairs pts pointCount polygonCount ns r fits few ok later =
-    on-unless "PTAG" "SURF" pairBytes tagging (λ ts. state pts (some polygonCount) (counted ns)) (pairsOf 0 r) refl (λ t ts. refl)
+    on-unless "PTAG" "SURF" pairBytes surfaceTags (λ ts. state pts (some polygonCount) (counted ns)) (pairsOf 0 r) refl (λ t ts. refl)
     (judged-pairs pointCount polygonCount pts (counted ns) few r fits (rw (count-counted ns) ok)) later
 
 -- what a run contributes
 unfoldable pub runParts : List Polygon → List Part
 runParts [] = []
-runParts (p ∷ r) = polygons (map (bare (p .kind)) (p ∷ r)) 0 ∷ unless tagging (pairsOf 0 (p ∷ r))
+runParts (p ∷ r) = polygonList (map (bare (p .kind)) (p ∷ r)) 0 ∷ unless surfaceTags (pairsOf 0 (p ∷ r))
 
 some-point : (pointCount nameCount : ℕ) (p : Polygon) → goodPolygon pointCount nameCount p ≡ true → 0 < pointCount
 some-point pointCount nameCount p ok = let g = good-polygon pointCount nameCount p ok in go (p .vertices) (g .count .0) (g .vertices)
@@ -170,7 +172,7 @@ on-runs {cs} {ps} gs pts ns few (r ∷ rs) short ok later =
 unfoldable pub surfaceParts : List Name → List Surface → List Part
 surfaceParts [] ss = []
 surfaceParts (n ∷ ns) [] = []
-surfaceParts (n ∷ ns) (s ∷ ss) = (if eqb (s .defined) 1 then surface n (joined (valuesOf s)) ∷ [] else []) ++ surfaceParts ns ss
+surfaceParts (n ∷ ns) (s ∷ ss) = (if eqb (s .defined) 1 then surface (written n s) ∷ [] else []) ++ surfaceParts ns ss
 
 pub on-surfaces : (b : Before) (earlier ns : List Name) (ss : List Surface) → goodNames earlier ns ≡ true → all goodSurface ss ≡ true
     → Judged b (surfaceChunks ns ss) (surfaceParts ns ss)
@@ -181,11 +183,11 @@ on-surfaces b earlier (n ∷ ns) (s ∷ ss) names-ok ok =
     go (eqb (s .defined) 1) (judged-surface b earlier n ns s names-ok (all-first _ s ss ok))
     (on-surfaces b (earlier ++ (n ∷ [])) ns ss (good-name earlier n ns names-ok .rest) (all-rest _ s ss ok))
   where
-    go : (d : Bool) → judge LWO2 b (number (spelt "SURF")) (surfaceBytes n s) ≡ fine (surface n (joined (valuesOf s))) → Judged b (surfaceChunks ns ss) (surfaceParts ns ss)
-        → Judged b ((if d then ("SURF", surfaceBytes n s) ∷ [] else []) ++ surfaceChunks ns ss) ((if d then surface n (joined (valuesOf s)) ∷ [] else []) ++ surfaceParts ns ss)
+    go : (d : Bool) → judge LWO2 b (number (spelt "SURF")) (surfaceBytes n s) ≡ fine (surface (written n s)) → Judged b (surfaceChunks ns ss) (surfaceParts ns ss)
+        → Judged b ((if d then ("SURF", surfaceBytes n s) ∷ [] else []) ++ surfaceChunks ns ss) ((if d then surface (written n s) ∷ [] else []) ++ surfaceParts ns ss)
     go true judged later = unfold all after in on refl judged later
     go false judged later = later
 
 -- what the chunks of a canonical file contribute
-abbrev pub partsOf : Mesh → List Part
-partsOf m = unless names (m .names) ++ (unless points (m .points) ++ (joined (map runParts (runs (m .polygons))) ++ surfaceParts (m .names) (m .surfaces)))
+abbrev pub canonicalParts : Mesh → List Part
+canonicalParts m = unless nameList (m .names) ++ (unless pointList (m .points) ++ (joined (map runParts (runs (m .polygons))) ++ surfaceParts (m .names) (m .surfaces)))

@@ -1,4 +1,4 @@
--- What the writer wrote, read back: the round trip over tables and over the writer's and the reader's answers. Assumes nothing.
+-- What the writer wrote, read back: the round trip over tables and over the writer's and the reader's answers.
 use Prim.Native.Nat.{ℕ, _≤_}
 use mathlib.Core.Path.{_≡_, refl}
 use mathlib.Core.List.{List, [], _∷_, map}

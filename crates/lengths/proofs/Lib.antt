@@ -1,7 +1,5 @@
-pub mod Adding
-pub mod Sized
-pub mod Paired
-pub mod Running
-pub mod Standing
-pub mod Chunked
-pub mod Filed
+pub mod SizeSum
+pub mod ItemLengths
+pub mod Pairs
+pub mod RunLengths
+pub mod FileLength

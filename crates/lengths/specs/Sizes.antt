@@ -1,16 +1,12 @@
 -- How many bytes the parts of a canonical file take, by the numbers that the tables hold.
-use Prim.Native.Nat.{ℕ, suc, _+_, _*_, _≤_}
+use Prim.Native.Nat.{ℕ, suc, _+_, _≤_}
 use mathlib.Core.Path.{_≡_}
 use mathlib.Core.List.{List, [], _∷_, _++_}
 use lib.Dec.{eqb}
-use lib.ListN.{length}
-use Rattle.format.specs.Bytes.{if_then_else_, sum}
-use Rattle.format.specs.Limits.{entryLimit}
+use Rattle.format.specs.Bytes.{if_then_else_}
 use Rattle.format.specs.Items.{stringSize}
 use Rattle.format.specs.Chunks.{sizeOf}
-use Rattle.format.specs.Mesh.{polygonSize}
 use Rattle.format.specs.Canonical.{pairBytes}
-use Rattle.format.specs.Written.{vertexCounts}
 
 -- a counted size, and a bound that keeps sums of sizes from wrapping
 pub record Counted (r size most : ℕ) : Type 0 where
@@ -23,11 +19,6 @@ unlessNone count n = if eqb count 0 then 0 else sizeOf 4 n
 
 -- ---- runs
 
--- how many of the numbers in front are k
-unfoldable pub leading : ℕ → List ℕ → ℕ
-leading k [] = 0
-leading k (n ∷ ns) = if eqb k n then suc (leading k ns) else 0
-
 -- the pairs of a run as bytes, by the surfaces of its polygons: one for each that has a surface; i is its number in the run
 abbrev pub pairOf : (i surface : ℕ) → List ℕ
 pairOf i surface = if eqb surface 0 then [] else pairBytes (i, surface)
@@ -35,12 +26,6 @@ pairOf i surface = if eqb surface 0 then [] else pairBytes (i, surface)
 unfoldable pub pairsFrom : (i : ℕ) → (surfaces : List ℕ) → List ℕ
 pairsFrom i [] = []
 pairsFrom i (s ∷ ss) = pairOf i s ++ pairsFrom (suc i) ss
-
--- entries of the polygons table, and the vertices of their polygons
-pub record PolygonsLent (polygons vertices : List ℕ) : Type 0 where
-  pub few : length polygons ≤ polygonSize * entryLimit
-  pub few-vertices : length vertices ≤ entryLimit
-  pub agree : sum (vertexCounts polygons) ≡ length vertices
 
 -- ---- surfaces
 

@@ -9,7 +9,7 @@ ghost use Rattle.format.specs.Chunks.{sizeOf};
 ghost use Rattle.format.specs.Canonical.{vxBytes};
 ghost use Rattle.output.specs.Outputs.{total};
 ghost use Rattle.lengths.specs.Sizes.{Counted, unlessNone};
-use mesh::words::wide;
+use words::wide;
 
 pub fn vx_length(n: usize) -> usize
     ensures { λ r. ⌜ Counted r (length (vxBytes n)) 4 ⌝ }

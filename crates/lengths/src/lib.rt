@@ -9,6 +9,7 @@ use crate::items::strings_length;
 use crate::items::unless_empty;
 use crate::runs::runs_length;
 use crate::surfaces::surfaces_length;
+use format::POINT_WORDS;
 
 pub mod items;
 pub mod runs;
@@ -26,7 +27,7 @@ pub fn file_length(
     requires { ⌜ isMesh (lent (now points) (now polygons) (now vertices) (now names) (now «name_bytes») (now records)) ≡ true ⌝ }
     ensures { λ r. ⌜ r ≡ length (canonical (meshFrom (lent (now (points .entry)) (now (polygons .entry)) (now (vertices .entry)) (now (names .entry)) (now («name_bytes» .entry)) (now (records .entry))))) ⌝ }
 {
-    let count = points.len() / 3;
+    let count = points.len() / POINT_WORDS;
     12
         + unless_empty(names.len(), strings_length(names))
         + unless_empty(count, 12 * count)

@@ -8,8 +8,9 @@ ghost use Rattle.mesh.specs.Lent.{column};
 ghost use Rattle.lengths.specs.Sizes.{Counted, surfaceSize, surfacesSize};
 use crate::items::chunk_length;
 use crate::items::string_length;
-use mesh::words::wide;
-use mesh::words::word_at;
+use format::RECORD_WORDS;
+use mesh::columns::word_at;
+use words::wide;
 
 // Empty source, COLR, five levels and SIDE take 90 bytes beside the name.
 fn surface_length(defined: u32, name: usize) -> usize
@@ -31,9 +32,9 @@ pub fn surfaces_length(lengths: &[u32], records: &[u32]) -> usize
     let mut i = 0;
     let mut at = 0;
     while i < lengths.len() {
-        bytes += surface_length(word_at(records, 10, at, 0), wide(lengths[i]));
+        bytes += surface_length(word_at(records, RECORD_WORDS, at, 0), wide(lengths[i]));
         i += 1;
-        at += 10;
+        at += RECORD_WORDS;
     }
     bytes
 }

@@ -14,7 +14,9 @@ use Rattle.format.specs.Mesh.{Polygon, needs}
 use Rattle.format.specs.Rules.{refused, gives, rules}
 use Rattle.format.specs.Answer.{Answer, fits, answer}
 use Rattle.laws.proofs.Room.{refused-range}
-use Rattle.listing.specs.Text.{countLines, polygonLines, refusalLine, listing, polygonsGiven, inputLimit, programTables, notRead, printed}
+use Rattle.listing_text.specs.Text.{polygonLines}
+use Rattle.listing_answer.specs.Listing.{countLines, refusalLine, listing, polygonsGiven}
+use Rattle.listing.specs.Program.{inputLimit, programTables, notRead, fileListing, printed}
 use Rattle.listing.specs.Listed.{Listed}
 
 -- no listing begins as `not read` does
@@ -27,11 +29,11 @@ other a ps e = by (eqb (a .number) 0) e
     by false e = let first : _≡_ {A = ℕ} 114 110 = ap (λ (l : List ℕ). getD l 0 0) e in omega arith
 
 within : (input : List ℕ) → length input ≤ inputLimit → printed input ≡ listing (answer (rules input) programTables) (polygonsGiven (rules input))
-unfolding printed
+unfolding printed fileListing
 within input few = rw (le-ltb inputLimit (length input) few)
 
 long-only : (input : List ℕ) (t : Bool) → ltb inputLimit (length input) ≡ t → printed input ≡ notRead → inputLimit < length input
-unfolding printed
+unfolding printed fileListing
 long-only input true long e = ltb-true inputLimit (length input) long
 long-only input false few e = absurd (other (answer (rules input) programTables) (polygonsGiven (rules input)) (rw few at e))
 

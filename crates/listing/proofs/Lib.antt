@@ -1,7 +1,3 @@
-pub mod Decimal
-pub mod Printing
-pub mod Vertices
-pub mod Lines
-pub mod Listed
-pub mod Answered
+pub mod FileListing
+pub mod PrintedInput
 pub mod Demand

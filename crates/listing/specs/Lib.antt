@@ -1,4 +1,3 @@
-pub mod Text
-pub mod Prints
+pub mod Program
 pub mod Listed
 pub mod Worked

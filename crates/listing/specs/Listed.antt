@@ -9,7 +9,9 @@ use Rattle.format.specs.Refusals.{noRoom}
 use Rattle.format.specs.Mesh.{Mesh, needs}
 use Rattle.format.specs.Rules.{refused, gives, rules}
 use Rattle.format.specs.Answer.{fits, answer}
-use Rattle.listing.specs.Text.{countLines, polygonLines, refusalLine, inputLimit, programTables, notRead}
+use Rattle.listing_text.specs.Text.{polygonLines}
+use Rattle.listing_answer.specs.Listing.{countLines, refusalLine}
+use Rattle.listing.specs.Program.{inputLimit, programTables, notRead}
 
 -- the program prints `text` for an input
 pub record Listed (input text : List ℕ) : Type 0 where
@@ -18,7 +20,8 @@ pub record Listed (input text : List ℕ) : Type 0 where
   -- the rules' own number and place, where they refuse
   pub refusal : length input ≤ inputLimit → {number place : ℕ} → rules input ≡ refused number place → text ≡ refusalLine number place
   -- "a file that needs more prints `refused 16 at 0`"
-  pub no-room : length input ≤ inputLimit → {m : Mesh} {k d : ℕ} → rules input ≡ gives m k d → fits (needs m) programTables ≡ false → text ≡ refusalLine noRoom 0
+  pub no-room : length input ≤ inputLimit → {m : Mesh} {k d : ℕ} → rules input ≡ gives m k d → fits (needs m) programTables ≡ false
+      → text ≡ refusalLine noRoom 0
   -- and otherwise the counts and the polygons of the mesh that the rules give
   pub accepted : length input ≤ inputLimit → {m : Mesh} {k d : ℕ} → rules input ≡ gives m k d → fits (needs m) programTables ≡ true
       → text ≡ countLines (answer (gives m k d) programTables) ++ polygonLines 0 (m .polygons)

@@ -1,21 +1,15 @@
-// Reads an object file from standard input and prints its listing.
+// Reads an object file from standard input and prints its listing. Nothing but the three standard streams and the program's own buffers is touched.
 ghost use Prim.Native.Nat.{_<_};
 ghost use Rattle.io.specs.Counts.{Counts};
-ghost use Rattle.listing.specs.Text.{inputLimit};
-ghost use Rattle.listing.specs.Prints.{PrintsInput};
-use crate::input::Input;
-use crate::input::read_input;
-use crate::listing::put_listing;
+ghost use Rattle.listing.specs.Program.{inputLimit, PrintsInput};
 use libc::STDERR_FILENO;
 use libc::STDIN_FILENO;
 use libc::STDOUT_FILENO;
+use listing_answer::put_listing;
+use listing_input::Input;
+use listing_input::read_input;
 use output::items::put_bytes;
 use reader::read;
-
-mod input;
-mod listing;
-mod polygons;
-mod text;
 
 // One byte more than an input may have, so that a longer one is seen.
 const INPUT: usize = 65537;

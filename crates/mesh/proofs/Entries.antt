@@ -1,4 +1,4 @@
--- A table entry by entry: what stands from a place on is the entry there and what stands after it. Assumes nothing.
+-- A table entry by entry: what stands from a place on is the entry there and what stands after it.
 use Prim.Native.Nat.{ℕ, suc, _+_, _-_, _/_, _<_, _≤_}
 use mathlib.Core.Path.{_≡_, refl, ap, _∙_}
 use mathlib.Core.List.{List, [], _∷_, _++_}
@@ -56,13 +56,16 @@ length-entries n ws = length-pieces (replicate (length ws / n) n) ws ∙ length-
 pub word-is : (n at index : ℕ) (ws : List ℕ) → index < n → getD ws (at + index) 0 ≡ word index (entryAt n at ws)
 word-is n at index ws inside = rw (getD-take n (drop at ws) index 0 inside, getD-drop at ws index 0)
 
+module _ (n index at : ℕ) (ws : List ℕ) where
+  pub column-at : 0 < n → n ≤ length ws - at → column n index (drop at ws) ≡ word index (entryAt n at ws) ∷ column n index (drop (at + n) ws)
+  column-at some fits = rw (entries-at n at ws some fits)
+
+  pub column-past : length ws - at < n → column n index (drop at ws) ≡ []
+  column-past short = rw (entries-past n at ws short)
+
 pub sum-at : (n index at : ℕ) (ws : List ℕ) → 0 < n → n ≤ length ws - at → sum (column n index (drop at ws)) ≡ word index (entryAt n at ws) + sum (column n index (drop (at + n) ws))
 unfolding sum
 sum-at n index at ws some fits = rw (entries-at n at ws some fits)
-
-pub sum-past : (n index at : ℕ) (ws : List ℕ) → length ws - at < n → sum (column n index (drop at ws)) ≡ 0
-unfolding sum
-sum-past n index at ws short = rw (entries-past n at ws short)
 
 -- ---- records
 

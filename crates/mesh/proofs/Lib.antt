@@ -1,8 +1,8 @@
-pub mod Passing
+pub mod AllPass
 pub mod Entries
-pub mod Summing
-pub mod Walking
-pub mod Naming
-pub mod Recorded
-pub mod Decided
-pub mod Known
+pub mod ColumnWalk
+pub mod PolygonWalk
+pub mod Runs
+pub mod RunWalk
+pub mod Records
+pub mod MeshFacts

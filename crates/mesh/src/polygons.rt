@@ -1,81 +1,79 @@
 // The polygons table: an entry is three words, the kind, the vertex count and the surface number. `at` is the place of an entry's first word.
+// Code that walks the table sees each polygon by `polygon_at`: which word is what is known here, and beside it by the code that puts the words.
 ghost use mathlib.Core.Path.{_≡_};
-ghost use Prim.Native.Nat.{_+_, _≤_, _<_, _^_};
-ghost use lib.Dec.{ltb};
+ghost use Prim.Native.Nat.{_+_, _*_, _≤_, _<_, _^_};
 ghost use lib.ListN.{length};
-ghost use Rattle.format.specs.Bytes.{all, sum};
+ghost use Rattle.format.specs.Bytes.{sum};
+ghost use Rattle.format.specs.Limits.{entryLimit};
 ghost use Rattle.format.specs.Mesh.{word, polygonSize};
-ghost use Rattle.format.specs.Written.{goodPolygon, vertexCounts};
-ghost use Rattle.mesh.specs.Lent.{entryAt, polygonsOf};
-use crate::words::wide;
-use crate::words::word_at;
+ghost use Rattle.format.specs.Written.{vertexCounts};
+ghost use Rattle.mesh.specs.Lent.{entryAt};
+ghost use Rattle.mesh.specs.Polygons.{polygonAt, runEnd};
+use crate::columns::sum_of;
+use crate::columns::word_at;
+use format::POLYGON_WORDS;
+use words::wide;
 
+// One polygon of the tables: its kind, its surface number, and the places where its vertices begin and end.
+pub struct Polygon {
+    pub kind: u32,
+    pub surface: u32,
+    pub first: usize,
+    pub end: usize,
+}
+
+// The polygon whose entry is at a place. Its vertices begin where those of the polygon before it end, which the caller knows.
+pub fn polygon_at(polygons: &[u32], at: usize, first: usize) -> Polygon
+    requires { ⌜ (at + polygonSize ≤ length (now polygons)) × (first + word 1 (entryAt polygonSize at (now polygons)) < 2 ^ 64) ⌝ }
+    ensures { λ r. ⌜ r ≡ polygonAt (now (polygons .entry)) at first ⌝ }
+{
+    let kind = word_at(polygons, POLYGON_WORDS, at, 0);
+    let count = word_at(polygons, POLYGON_WORDS, at, 1);
+    let surface = word_at(polygons, POLYGON_WORDS, at, 2);
+    Polygon {
+        kind,
+        surface,
+        first,
+        end: first + wide(count),
+    }
+}
+
+// The kind alone, for the runs.
 pub fn kind(polygons: &[u32], at: usize) -> u32
     requires { ⌜ at + polygonSize ≤ length (now polygons) ⌝ }
     ensures { λ r. ⌜ r ≡ word 0 (entryAt polygonSize at (now (polygons .entry))) ⌝ }
 {
-    word_at(polygons, 3, at, 0)
+    word_at(polygons, POLYGON_WORDS, at, 0)
 }
 
-pub fn vertex_count(polygons: &[u32], at: usize) -> usize
-    requires { ⌜ at + polygonSize ≤ length (now polygons) ⌝ }
-    ensures { λ r. ⌜ (r ≡ word 1 (entryAt polygonSize at (now (polygons .entry)))) × (r < 2 ^ 32) ⌝ }
-{
-    wide(word_at(polygons, 3, at, 1))
-}
-
+// The surface number alone, for the pairs of a PTAG.
 pub fn surface(polygons: &[u32], at: usize) -> u32
     requires { ⌜ at + polygonSize ≤ length (now polygons) ⌝ }
     ensures { λ r. ⌜ r ≡ word 2 (entryAt polygonSize at (now (polygons .entry))) ⌝ }
 {
-    word_at(polygons, 3, at, 2)
+    word_at(polygons, POLYGON_WORDS, at, 2)
 }
 
-// Every vertex is the number of a point.
-fn all_below(vertices: &[u32], points: usize) -> bool
-    ensures { λ r. ⌜ r ≡ all (λ v. ltb v points) (now (vertices .entry)) ⌝ }
+// How many vertices the polygons have together.
+pub fn vertex_count(polygons: &[u32]) -> usize
+    requires { ⌜ length (now polygons) ≤ polygonSize * entryLimit ⌝ }
+    ensures { λ r. ⌜ r ≡ sum (vertexCounts (now (polygons .entry))) ⌝ }
 {
-    let mut i = 0;
-    while i < vertices.len() {
-        if points <= wide(vertices[i]) {
-            return false;
+    sum_of(polygons, POLYGON_WORDS, 1)
+}
+
+// The place after the run that begins at a place: the polygons from there on that have the kind of the first.
+pub fn run_end(polygons: &[u32], at: usize) -> usize
+    requires { ⌜ at + polygonSize ≤ length (now polygons) ⌝ }
+    ensures { λ r. ⌜ (r ≡ runEnd (now (polygons .entry)) at) × (r ≤ length (now (polygons .entry))) ⌝ }
+{
+    let first = kind(polygons, at);
+    let mut end = at + POLYGON_WORDS;
+    while POLYGON_WORDS <= polygons.len() - end {
+        if first != kind(polygons, end) {
+            return end;
         }
-        i += 1;
+        end += POLYGON_WORDS;
     }
-    true
-}
-
-fn good_polygon(kind: u32, surface: u32, vertices: &[u32], points: usize, names: usize) -> bool
-    ensures { λ r. ⌜ r ≡ goodPolygon points names (record { kind = kind; surface = surface; vertices = now (vertices .entry) }) ⌝ }
-{
-    let n = vertices.len();
-    ((1 <= kind) & (kind <= 2))
-        & ((1 <= n) & (n <= 1023))
-        & all_below(vertices, points)
-        & (wide(surface) <= names)
-        & (surface <= 65536)
-}
-
-// The vertices of a polygon follow those of the one before it.
-pub fn good_polygons(polygons: &[u32], vertices: &[u32], points: usize, names: usize) -> bool
-    requires { ⌜ sum (vertexCounts (now polygons)) ≡ length (now vertices) ⌝ }
-    ensures { λ r. ⌜ r ≡ all (goodPolygon points names) (polygonsOf (now (polygons .entry)) (now (vertices .entry))) ⌝ }
-{
-    let mut at = 0;
-    let mut first = 0;
-    while 3 <= polygons.len() - at {
-        let end = first + vertex_count(polygons, at);
-        if !good_polygon(
-            kind(polygons, at),
-            surface(polygons, at),
-            &vertices[first..end],
-            points,
-            names,
-        ) {
-            return false;
-        }
-        at += 3;
-        first = end;
-    }
-    true
+    end
 }

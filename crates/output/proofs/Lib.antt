@@ -1,2 +1,3 @@
-pub mod Filling
-pub mod Ordered
+pub mod PutSoFar
+pub mod Parts
+pub mod Chunks

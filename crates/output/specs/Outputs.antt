@@ -1,12 +1,12 @@
 -- What is put into a lent output.
-use Prim.Native.Nat.{ℕ, _+_}
+use Prim.Native.Nat.{ℕ, _+_, _%_}
 use Prim.Native.String.{String}
 use mathlib.Core.Path.{_≡_}
 use mathlib.Core.List.{List, _++_, map}
-use lib.ListN.{length}
+use lib.ListN.{length, replicate}
 use Rattle.format.specs.Bytes.{joined}
 use Rattle.format.specs.Canonical.{bytes, encoded}
-use Rattle.format.specs.Said.{Put}
+use Rattle.format.specs.Contracts.{Put}
 
 -- what some elements are written as, joined
 abbrev pub total : {A : Type 0} → (A → List ℕ) → List A → ℕ
@@ -27,3 +27,7 @@ chunksBytes cs = joined (map encoded cs)
 -- a tag by its number, and the length of a body
 abbrev pub headBytes : (width tag n : ℕ) → List ℕ
 headBytes width tag n = bytes 4 tag ++ bytes width n
+
+-- a chunk by the number of its tag
+abbrev pub taggedBytes : (width tag : ℕ) → List ℕ → List ℕ
+taggedBytes width tag body = headBytes width tag (length body) ++ (body ++ replicate (length body % 2) 0)

@@ -1,7 +1,8 @@
 // The head of a chunk and its pad put into the output: a chunk is a head, its body and its pad.
-ghost use Prim.Native.Nat.{_+_, _%_, _≤_};
-ghost use lib.ListN.{length, replicate};
-ghost use Rattle.output.specs.Outputs.{Wrote, headBytes};
+// A body is put before its head, so that its length is not counted before it is known.
+ghost use Prim.Native.Nat.{_+_, _-_, _%_, _≤_};
+ghost use lib.ListN.{length, take, drop, replicate};
+ghost use Rattle.output.specs.Outputs.{Wrote, headBytes, taggedBytes};
 use crate::items::put_u2;
 use crate::items::put_u4;
 
@@ -33,4 +34,14 @@ pub fn put_pad(out: &mut [u8], at: usize, n: usize) -> usize
     }
     out[at] = 0;
     at + 1
+}
+
+// The head and the pad of a chunk whose body stands there already, from behind the place of the head up to `end`.
+pub fn close_chunk(out: &mut [u8], at: usize, tag: u32, end: usize) -> usize
+    requires { ⌜ (at + 8 ≤ end) × (end + (end - (at + 8)) % 2 ≤ length (now out)) ⌝ }
+    ensures { λ r. ⌜ Wrote (now (out .entry)) at (taggedBytes 4 tag (take (end - (at + 8)) (drop (at + 8) (now (out .entry))))) (now (out .exit)) r ⌝ }
+{
+    let n = end - (at + 8);
+    put_head(out, at, tag, n);
+    put_pad(out, end, n)
 }

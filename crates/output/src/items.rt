@@ -9,7 +9,7 @@ ghost use Rattle.format.specs.Bytes.{all, sum, joined};
 ghost use Rattle.format.specs.Canonical.{bytes, vxBytes, stringBytes};
 ghost use Rattle.format.specs.Written.{pieces};
 ghost use Rattle.output.specs.Outputs.{total, Wrote};
-use mesh::words::wide;
+use words::wide;
 
 // The low two bytes of a number, the high one first.
 pub fn put_u2(out: &mut [u8], at: usize, n: u32) -> usize

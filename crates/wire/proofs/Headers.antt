@@ -1,4 +1,4 @@
--- A chunk's header at a place, whatever the width of its length. Assumes nothing.
+-- A chunk's header at a place, whatever the width of its length.
 use mathlib.Core.Path.{_≡_, refl, sym, ap, _∙_}
 use mathlib.Core.List.{List, [], _∷_}
 use mathlib.Core.Bool.{Bool, true, false, _&&_}
@@ -11,13 +11,13 @@ use borrow.Author.Tests.{le-leb, lt-leb}
 use Rattle.format.specs.Bytes.{between, number, every, all}
 use Rattle.format.specs.declared.Fault.{Fault}
 use Rattle.format.specs.declared.Fault.the-variants.{BadHeader}
-use Rattle.format.specs.Items.{Verdict, fine, fault, _then_, Reader, give, whole}
+use Rattle.format.specs.Items.{Verdict, fine, fault, _andThen_, Reader, give, whole}
 use Rattle.format.specs.Chunks.{chunkOf, wellFormed, lengthOf, sizeOf, sub}
-use Rattle.format.specs.Said.{keep, Says, JudgedAt, got}
-use Rattle.format.proofs.Saying.{exact, exactly}
+use Rattle.format.specs.Contracts.{keep, Says, JudgedAt, got}
+use Rattle.format.proofs.ReaderSteps.{exact, exactly}
 use Rattle.wire.specs.declared.cursor.Cursor.{Cursor}
 use Rattle.wire.specs.declared.header.Header.{Header}
-use Rattle.wire.specs.Answers.{HeaderAt, HeadRead}
+use Rattle.wire.specs.Contracts.{HeaderAt, HeadRead}
 
 -- ---- the tag and the pad
 
@@ -120,25 +120,25 @@ length-is width s at is = rw (drop-drop 4 at s) (sym is)
 
 -- ---- a sub-chunk whose body is judged, as a prefix of the same bytes
 
-judged : {A B : Type 0} (h : A → B) (v : Verdict A) {answer : Verdict B} (left : List ℕ) (p : ℕ) → answer ≡ (v then λ a. fine (h a)) → keep h (v then λ a. give a p left) ≡ (answer then λ b. give b p left)
-unfolding _then_
+judged : {A B : Type 0} (h : A → B) (v : Verdict A) {answer : Verdict B} (left : List ℕ) (p : ℕ) → answer ≡ (v andThen λ a. fine (h a)) → keep h (v andThen λ a. give a p left) ≡ (answer andThen λ b. give b p left)
+unfolding _andThen_
 judged h (fine a) left p e = rw e
 judged h (fault why q) left p e = rw e
 
 module _ {A B : Type 0} (inside : ℕ → Reader A) {h : A → B} {s : List ℕ} {at : ℕ} where
   pub sub-bad : HeaderAt 2 s at Header.Bad → Says (sub inside) h s at (fault BadHeader at)
-  unfolding sub _then_
+  unfolding sub _andThen_
   sub-bad w = record { is = rw (exactly (w .reads .says)) }
 
   module _ {tag end : ℕ} {next : Cursor} (w : HeaderAt 2 s at (Header.Got tag end next)) where
-    sub-says : {answer : Verdict B} → JudgedAt at (at + 6) (inside tag) h (take end s) answer → Says (sub inside) h s at (answer then λ b. give b (next .at) (drop (next .at) s))
-    unfolding sub _then_
+    sub-says : {answer : Verdict B} → JudgedAt at (at + 6) (inside tag) h (take end s) answer → Says (sub inside) h s at (answer andThen λ b. give b (next .at) (drop (next .at) s))
+    unfolding sub _andThen_
     sub-says j = record { is = rw (exactly (w .reads .says)) (sym (judged h (whole at (inside tag) (at + 6) (drop (at + 6) (take end s))) (drop (next .at) s) (next .at) (j .is))) }
 
     pub sub-fine : {y : B} → JudgedAt at (at + 6) (inside tag) h (take end s) (fine y) → Says (sub inside) h s at (got s y (next .at))
-    unfolding _then_
+    unfolding _andThen_
     sub-fine j = sub-says j
 
     pub sub-stop : {why : Fault} {p : ℕ} → JudgedAt at (at + 6) (inside tag) h (take end s) (fault why p) → Says (sub inside) h s at (fault why p)
-    unfolding _then_
+    unfolding _andThen_
     sub-stop j = sub-says j

@@ -3,10 +3,11 @@ ghost use mathlib.Core.Path.{_≡_};
 ghost use Prim.Native.Nat.{_+_, _-_, _≤_, _<_};
 ghost use lib.Dec.{ltb};
 ghost use lib.ListN.{length, getD, take, drop};
-ghost use Rattle.format.specs.Bytes.{signed, finite, number};
+ghost use Rattle.format.specs.Bytes.{signed, number};
 ghost use Rattle.format.specs.Items.{u2, u4, vx, float, toZero};
-ghost use Rattle.wire.specs.Answers.{signOf, faultOf, NumberAt, SignedAt, SignAt, ItemAt, TextAt};
+ghost use Rattle.wire.specs.Contracts.{signedSurfaceOf, faultOf, NumberAt, I2At, SignedSurfaceAt, ItemAt, TextAt};
 use format::Fault;
+use words::is_finite;
 
 pub struct Cursor {
     pub at: usize,
@@ -19,19 +20,19 @@ pub enum Number {
 }
 
 // I2
-pub enum Signed {
+pub enum I2Read {
     Got(i16, Cursor),
     Cut,
 }
 
 // A surface number of an LWOB file: its absolute value, and whether it was negative.
-pub struct Sign {
+pub struct SignedSurface {
     pub number: u32,
     pub negative: bool,
 }
 
-pub enum Signs {
-    Got(Sign, Cursor),
+pub enum SignedSurfaceRead {
+    Got(SignedSurface, Cursor),
     Cut,
 }
 
@@ -118,28 +119,21 @@ fn signed16(n: u16) -> i16
 }
 
 // The sign decides, and the number is negated only in the wider type: -32,768 stands for 32,768.
-fn sign_of(z: i16) -> Sign
-    ensures { λ r. ⌜ r ≡ signOf z ⌝ }
+fn signed_surface(z: i16) -> SignedSurface
+    ensures { λ r. ⌜ r ≡ signedSurfaceOf z ⌝ }
 {
     let wide = z as i32;
     if wide < 0 {
-        Sign {
+        SignedSurface {
             number: -wide as u32,
             negative: true,
         }
     } else {
-        Sign {
+        SignedSurface {
             number: wide as u32,
             negative: false,
         }
     }
-}
-
-// The eight exponent bits are not all ones.
-pub fn is_finite(bits: u32) -> bool
-    ensures { λ r. ⌜ r ≡ finite bits ⌝ }
-{
-    bits / 8388608 % 256 != 255
 }
 
 // The place of the first zero byte from a place on, or the end.
@@ -180,24 +174,24 @@ impl Cursor {
         Number::Got(word(s, at), Cursor { at: at + 4 })
     }
 
-    pub fn i2(self, s: &[u8]) -> Signed
-        ensures { λ r. ⌜ SignedAt (now (s .entry)) (self .at) r ⌝ }
+    pub fn i2(self, s: &[u8]) -> I2Read
+        ensures { λ r. ⌜ I2At (now (s .entry)) (self .at) r ⌝ }
     {
         let at = self.at;
         if is_cut(s, at, 2) {
-            return Signed::Cut;
+            return I2Read::Cut;
         }
-        Signed::Got(signed16(pair(s, at)), Cursor { at: at + 2 })
+        I2Read::Got(signed16(pair(s, at)), Cursor { at: at + 2 })
     }
 
     // An I2 that is a surface number.
-    pub fn sign(self, s: &[u8]) -> Signs
-        ensures { λ r. ⌜ SignAt (now (s .entry)) (self .at) r ⌝ }
+    pub fn surface_number(self, s: &[u8]) -> SignedSurfaceRead
+        ensures { λ r. ⌜ SignedSurfaceAt (now (s .entry)) (self .at) r ⌝ }
     {
-        let Signed::Got(z, next) = self.i2(s) else {
-            return Signs::Cut;
+        let I2Read::Got(z, next) = self.i2(s) else {
+            return SignedSurfaceRead::Cut;
         };
-        Signs::Got(sign_of(z), next)
+        SignedSurfaceRead::Got(signed_surface(z), next)
     }
 
     // Where the first byte is 255 there are four bytes, with the index in the low 24 bits, and two otherwise.

@@ -4,7 +4,7 @@ ghost use Prim.Native.Nat.{_+_, _≤_, _<_};
 ghost use lib.Dec.{eqb};
 ghost use lib.ListN.{length, take, drop};
 ghost use Rattle.format.specs.Bytes.{between, all};
-ghost use Rattle.wire.specs.Answers.{HeaderAt, HeadRead};
+ghost use Rattle.wire.specs.Contracts.{HeaderAt, HeadRead};
 use crate::cursor::Cursor;
 use crate::cursor::left;
 use crate::cursor::pair;

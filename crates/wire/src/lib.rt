@@ -2,7 +2,6 @@
 use crate::cursor::Cursor;
 use format::Fault;
 
-pub mod bytes;
 pub mod cursor;
 pub mod header;
 

@@ -1,39 +1,50 @@
--- The file of tables that are a mesh, part by part, and what is known of its vertices. Assumes nothing.
-use Prim.Native.Nat.{ℕ, _+_, _-_, _≤_, _^_}
+-- The file of tables that are a mesh is its parts joined; points have the bytes of their words, and vertices have 24 bits.
+use Prim.Native.Nat.{ℕ, _+_, _-_, _/_, _%_, _≤_, _^_}
 use mathlib.Core.Path.{_≡_, refl, sym, ap, _∙_}
 use mathlib.Core.List.{List, [], _∷_, _++_, map, append-nil}
 use mathlib.Core.Bool.{true}
 use native.Mathlib.Omega.{arith}
 use lib.Dec.{ltb}
-use lib.ListN.{length, length-map}
+use lib.ListN.{length, length-map, length-append}
 use borrow.Author.Tests.{ltb-true, lt-ltb}
-use Rattle.format.specs.declared.Kind.the-variants.{LWO2}
 use Rattle.format.specs.Bytes.{all, joined}
-use Rattle.format.specs.Mesh.{Point, pointWords, pointSize, pointFrom, Polygon, Tables, tables}
+use Rattle.format.specs.Mesh.{Point, pointSize, pointFrom, Tables}
 use Rattle.format.specs.Canonical.{bytes, stringBytes, pointBytes, runs, unlessEmpty, runChunks, surfaceChunks, canonicalChunks, formBytes, encoded, canonical}
-use Rattle.format.specs.Written.{pieces, entries, goodPolygon, meshFrom, isMesh}
+use Rattle.format.specs.Written.{pieces, entries, meshFrom, isMesh}
 use Rattle.format.proofs.Puts.{joined-map-append}
 use Rattle.format.proofs.Facts.{all-first, all-rest}
-use Rattle.laws.proofs.GoodPolygons.{good-polygon}
-use Rattle.laws.proofs.Meshes.{good}
-use Rattle.laws.proofs.Form.{length-form}
-use Rattle.laws.proofs.Tables.{good-tables, tables-back}
+use Rattle.format.proofs.CanonicalLengths.{length-bytes, length-form}
 use Rattle.mesh.specs.Lent.{polygonsOf, surfacesOf}
-use Rattle.mesh.proofs.Entries.{length-entries}
-use Rattle.mesh.proofs.Known.{known}
+use Rattle.mesh.proofs.Entries.{first, length-entries}
+use Rattle.mesh.proofs.MeshFacts.{MeshFacts, mesh-facts}
 use Rattle.output.specs.Outputs.{chunksBytes, headBytes}
 
 -- ---- points, whose bytes are those of their words
 
-words-bytes : (ps : List Point) → joined (map pointBytes ps) ≡ joined (map (bytes 4) (joined (map pointWords ps)))
-unfolding joined
-words-bytes [] = refl
-words-bytes (p ∷ ps) = rw (words-bytes ps) (sym (joined-map-append (bytes 4) (pointWords p) (joined (map pointWords ps))))
+words-bytes : (ws : List ℕ) → length ws % pointSize ≡ 0 → joined (map pointBytes (map pointFrom (entries pointSize ws))) ≡ joined (map (bytes 4) ws)
+unfolding entries pieces joined
+words-bytes [] whole = refl
+words-bytes (a ∷ []) whole = absurd (omega arith)
+words-bytes (a ∷ b ∷ []) whole = absurd (omega arith)
+words-bytes (a ∷ b ∷ c ∷ ws) whole =
+    let one = first pointSize (a ∷ b ∷ c ∷ ws) (omega arith) (omega arith) in
+    rw (one, words-bytes ws (omega arith)) (sym (joined-map-append (bytes 4) (a ∷ b ∷ c ∷ []) ws))
 
-points-chunk : (ps : List Point) → chunksBytes (unlessEmpty "PNTS" "" pointBytes ps) ≡ chunksBytes (unlessEmpty "PNTS" "" (bytes 4) (joined (map pointWords ps)))
+nothing-of : (w : ℕ) (ws : List ℕ) → [] ≡ joined (map (bytes 4) (w ∷ ws)) → ⊥
+unfolding joined
+nothing-of w ws none = omega (arith, ap length none, length-append (bytes 4 w) (joined (map (bytes 4) ws)), length-bytes 4 w)
+
+points-chunk : (ws : List ℕ) → length ws % pointSize ≡ 0
+    → chunksBytes (unlessEmpty "PNTS" "" pointBytes (map pointFrom (entries pointSize ws))) ≡ chunksBytes (unlessEmpty "PNTS" "" (bytes 4) ws)
 unfolding unlessEmpty joined
-points-chunk [] = refl
-points-chunk (p ∷ ps) = ap (λ (l : List ℕ). chunksBytes (("PNTS", l) ∷ [])) (words-bytes (p ∷ ps))
+points-chunk ws whole = go ws (map pointFrom (entries pointSize ws)) (length-map (entries pointSize ws) pointFrom ∙ length-entries pointSize ws) (words-bytes ws whole)
+  where
+    go : (ws : List ℕ) (ps : List Point) → length ps ≡ length ws / pointSize → joined (map pointBytes ps) ≡ joined (map (bytes 4) ws)
+        → chunksBytes (unlessEmpty "PNTS" "" pointBytes ps) ≡ chunksBytes (unlessEmpty "PNTS" "" (bytes 4) ws)
+    go [] [] count same = refl
+    go [] (p ∷ ps) count same = absurd (omega arith)
+    go (w ∷ ws) [] count same = absurd (nothing-of w ws same)
+    go (w ∷ ws) (p ∷ ps) count same = ap (λ (l : List ℕ). chunksBytes (("PNTS", l) ∷ [])) same
 
 -- ---- vertices, which are numbers of points
 
@@ -42,19 +53,6 @@ unfolding all
 all-below k most less [] ok = refl
 all-below k most less (v ∷ vs) ok =
     rw (lt-ltb v most (omega (arith, ltb-true v k (all-first (λ v. ltb v k) v vs ok)))) (all-below k most less vs (all-rest (λ v. ltb v k) v vs ok))
-
-all-both : (most : ℕ) (vs us : List ℕ) → all (λ v. ltb v most) vs ≡ true → all (λ v. ltb v most) us ≡ true → all (λ v. ltb v most) (vs ++ us) ≡ true
-unfolding all
-all-both most [] us first second = second
-all-both most (v ∷ vs) us first second = rw (all-first (λ v. ltb v most) v vs first) (all-both most vs us (all-rest (λ v. ltb v most) v vs first) second)
-
-vertices-below : (points names most : ℕ) → points ≤ most → (ps : List Polygon) → all (goodPolygon points names) ps ≡ true → all (λ v. ltb v most) (joined (map (λ p. p .vertices) ps)) ≡ true
-unfolding all joined
-vertices-below points names most less [] ok = refl
-vertices-below points names most less (p ∷ ps) ok =
-    all-both most (p .vertices) (joined (map (λ p. p .vertices) ps))
-    (all-below points most less (p .vertices) (good-polygon points names p (all-first (goodPolygon points names) p ps ok) .vertices))
-    (vertices-below points names most less ps (all-rest (goodPolygon points names) p ps ok))
 
 -- ---- the file
 
@@ -80,20 +78,18 @@ module _ (t : Tables) where
 
   pub head-long : {n : ℕ} → n ≡ length (canonical (meshFrom t)) → 12 ≤ n
   unfolding canonical
-  head-long long = omega (arith, long, length-form LWO2 all-chunks)
+  head-long long = omega (arith, long, length-form "LWO2" all-chunks refl)
 
   module _ (ok : isMesh t ≡ true) where
+    facts : MeshFacts (t .points) (t .polygons) (t .vertices) (t .names) (t .nameBytes) (t .records)
+    facts = mesh-facts (t .points) (t .polygons) (t .vertices) (t .names) (t .nameBytes) (t .records) ok
+
     pub small-vertices : all (λ v. ltb v (2 ^ 24)) (t .vertices) ≡ true
-    unfolding meshFrom tables
-    small-vertices =
-        let g = good (meshFrom t) (good-tables t ok) in
-        let k = known (t .points) (t .polygons) (t .vertices) (t .names) (t .nameBytes) (t .records) ok in
-        let few : length (meshFrom t .points) ≤ 2 ^ 24 = omega (arith, length-map (entries pointSize (t .points)) pointFrom, length-entries pointSize (t .points), k .few-points) in
-        rw (ap (λ (u : Tables). u .vertices) (tables-back t ok)) at (vertices-below _ _ (2 ^ 24) few (meshFrom t .polygons) (g .polygons))
+    small-vertices = all-below (length (t .points) / pointSize) (2 ^ 24) (omega (arith, facts .few-points)) (t .vertices) (facts .vertices-below)
 
     same-points : chunksBytes (unlessEmpty "PNTS" "" pointBytes (meshFrom t .points)) ≡ coordinates
-    unfolding tables
-    same-points = points-chunk (meshFrom t .points) ∙ ap (λ (u : Tables). chunksBytes (unlessEmpty "PNTS" "" (bytes 4) (u .points))) (tables-back t ok)
+    unfolding meshFrom
+    same-points = points-chunk (t .points) (facts .whole-points)
 
     chunks-are : all-chunks ≡ tags ++ (coordinates ++ (allRuns ++ surfaces))
     unfolding canonicalChunks meshFrom polygonsOf surfacesOf
@@ -108,5 +104,5 @@ module _ (t : Tables) where
     pub file-is : {n : ℕ} → n ≡ length (canonical (meshFrom t)) → canonical (meshFrom t) ≡ joined (fileParts n)
     unfolding canonical formBytes bytes joined
     file-is {n} long =
-        let rest : 4 + length all-chunks ≡ n - 8 = omega (arith, long, length-form LWO2 all-chunks) in
+        let rest : 4 + length all-chunks ≡ n - 8 = omega (arith, long, length-form "LWO2" all-chunks refl) in
         rw (rest, chunks-are, append-nil surfaces)

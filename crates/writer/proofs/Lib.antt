@@ -1,6 +1,3 @@
-pub mod RunPut
-pub mod SurfacePut
-pub mod Entered
 pub mod FileParts
-pub mod Answered
-pub mod Writing
+pub mod Answers
+pub mod Outputs

@@ -1,30 +1,24 @@
 // The canonical file of a mesh: what the writer answers, and the file put into a lent output. Nothing is put before its whole length is known to fit.
 ghost use mathlib.Core.Path.{_≡_};
-ghost use mathlib.Core.Bool.{true};
 ghost use lib.ListN.{length};
 ghost use Rattle.format.specs.Mesh.{lent};
 ghost use Rattle.format.specs.Canonical.{canonical};
-ghost use Rattle.format.specs.Written.{meshFrom, isMesh, written, Writes};
+ghost use Rattle.format.specs.Written.{meshFrom, written, Writes};
 ghost use Rattle.writer.specs.Writes.{answerAs};
 ghost use Rattle.output.specs.Outputs.{Wrote};
-ghost use Rattle.writer.specs.Parts.{FilePut};
-use crate::chunks::put_points;
-use crate::chunks::put_tags;
-use crate::run_chunks::put_runs;
-use crate::surface::put_surfaces;
-use crate::tags::FORM;
-use crate::tags::LWO2;
+ghost use Rattle.writer.specs.Contracts.{FileRoom};
+use crate::chunks::put_names_chunk;
+use crate::chunks::put_points_chunk;
+use format::tags::FORM;
+use format::tags::LWO2;
+use good_mesh::is_mesh;
 use lengths::file_length;
-use mesh::is_mesh;
 use output::heads::put_head;
 use output::items::put_u4;
+use write_runs::put_runs;
+use write_surfaces::put_surfaces;
 
 pub mod chunks;
-pub mod pairs;
-pub mod polygons;
-pub mod run_chunks;
-pub mod surface;
-pub mod tags;
 
 // A number of document 01, the place 0, and a length: bytes written on 0, bytes needed on 16, else 0.
 pub struct Answer {
@@ -79,13 +73,13 @@ fn put_file(
     records: &[u32],
     n: usize,
 ) -> usize
-    requires { ⌜ FilePut (lent (now points) (now polygons) (now vertices) (now names) (now «name_bytes») (now records)) (now out) n ⌝ }
+    requires { ⌜ FileRoom (lent (now points) (now polygons) (now vertices) (now names) (now «name_bytes») (now records)) (now out) n ⌝ }
     ensures { λ r. ⌜ Wrote (now (out .entry)) 0 (canonical (meshFrom (lent (now (points .entry)) (now (polygons .entry)) (now (vertices .entry)) (now (names .entry)) (now («name_bytes» .entry)) (now (records .entry))))) (now (out .exit)) r ⌝ }
 {
     let kind = put_head(out, 0, FORM, n - 8);
     let tags = put_u4(out, kind, LWO2);
-    let coordinates = put_tags(out, tags, names, name_bytes);
-    let runs = put_points(out, coordinates, points);
+    let coordinates = put_names_chunk(out, tags, names, name_bytes);
+    let runs = put_points_chunk(out, coordinates, points);
     let surfaces = put_runs(out, runs, polygons, vertices);
     put_surfaces(out, surfaces, names, name_bytes, records)
 }

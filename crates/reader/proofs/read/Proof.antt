@@ -1,4 +1,4 @@
--- Each way out has its law in `Answering`, and the type of a lent byte says that it is one.
+-- Each way out has its law in `ReadAnswers`, and the type of a lent byte says that it is one.
 use borrow.Author.Needs.{needs}
 use native.Mathlib.Omega.{arith}
 use mathlib.Core.Path.{_≡_}
@@ -6,9 +6,9 @@ use mathlib.Core.Bool.{true}
 use Rattle.format.specs.Bytes.{byte, all}
 use Rattle.format.specs.Mesh.{Tables, lent}
 use Rattle.format.proofs.Facts.{all-bytes}
-use Rattle.survey.specs.declared.first.First.{First}
-use Rattle.survey.specs.Answers.{FirstOf}
-use Rattle.reader.proofs.Answering.{read-refused, tables-room, read-accepted, read-no-room}
+use Rattle.validate.specs.declared.FileResult.{FileResult}
+use Rattle.validate.specs.Contracts.{FileJudged}
+use Rattle.reader.proofs.ReadAnswers.{read-refused, tables-room, read-accepted, read-no-room}
 use Rattle.reader.proofs.read.Statement.{statement}
 use Rattle.reader.proofs.read.Tie as tie
 
@@ -23,15 +23,15 @@ abbrev given : tie.Start → Tables
 given a = lent (a .args .points .now) (a .args .polygons .now) (a .args .vertices .now) (a .args .names .now) (a .args .name-bytes .now) (a .args .records .now)
 
 -- the file is bytes
-bytes : (x : tie.After-first-pass) → all byte (x .before .before .before .before .before .before .before .before .args .file .now) ≡ true
+bytes : (x : tie.After-validate) → all byte (x .before .before .before .before .before .before .before .before .args .file .now) ≡ true
 bytes x = all-bytes _ (λ i. omega (arith, x .before .before .before .before .before .before .before .shared-slice-known .given i))
 
 -- the file was judged fine
-counted : (x : tie.After-kind) → FirstOf (start x .args .file .now) (First.Counts (x .kind .given .0 .0) (x .kind .given .0 .1 .0))
-counted x = rw (x .kind .given .1) at (x .before .before .first-pass .ensures)
+counted : (x : tie.After-kind) → FileJudged (start x .args .file .now) (FileResult.Counts (x .kind .given .0 .0) (x .kind .given .0 .1 .0))
+counted x = rw (x .kind .given .1) at (x .before .before .validate .ensures)
 
 returns : tie.Need-returns
-returns c = read-refused (bytes (c .before .before .before .before)) (rw (c .before .before .f .given .1) at (c .before .before .before .before .first-pass .ensures)) (c .refused .ensures)
+returns c = read-refused (bytes (c .before .before .before .before)) (rw (c .before .before .f .given .1) at (c .before .before .before .before .validate .ensures)) (c .refused .ensures)
 
 fill-tables-requires : tie.Need-fill-tables-requires
 fill-tables-requires c κs =

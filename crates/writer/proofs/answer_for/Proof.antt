@@ -1,8 +1,9 @@
+-- The tests in their order, each with its answer.
 use mathlib.Core.Path.{ap, _∙_}
 use borrow.Author.Needs.{needs}
-use Rattle.mesh.proofs.Passing.{passed}
+use Rattle.mesh.proofs.AllPass.{passed}
 use Rattle.writer.specs.Writes.{answerAs}
-use Rattle.writer.proofs.Answered.{no-mesh, over-limit, out-of-room, there-is-room}
+use Rattle.writer.proofs.Answers.{no-mesh, over-limit, out-of-room, there-is-room}
 use Rattle.writer.proofs.answer_for.Statement.{statement}
 use Rattle.writer.proofs.answer_for.Tie as tie
 

@@ -1,3 +1,4 @@
+-- The parts of the file are put one after another, and there is room for each since there is for all.
 use Prim.Native.Nat.{ℕ}
 use mathlib.Core.List.{List}
 use native.Mathlib.Omega.{arith}
@@ -6,9 +7,9 @@ use denote.Ref.{now}
 use Rattle.format.specs.Mesh.{Tables, lent}
 use Rattle.format.specs.Canonical.{canonical}
 use Rattle.format.specs.Written.{meshFrom}
-use Rattle.laws.proofs.Items.{length-bytes}
-use Rattle.mesh.proofs.Known.{Known, known}
-use Rattle.output.proofs.Ordered.{Ordered, begin, room, turn, end}
+use Rattle.format.proofs.CanonicalLengths.{length-bytes}
+use Rattle.mesh.proofs.MeshFacts.{MeshFacts, mesh-facts}
+use Rattle.output.proofs.Parts.{PartsLeft, begin, room, turn, end}
 use Rattle.writer.proofs.FileParts.{fileParts, small-vertices, head-long, file-is}
 use Rattle.writer.proofs.put_file.Statement.{statement}
 use Rattle.writer.proofs.put_file.Tie as tie
@@ -23,10 +24,10 @@ at-head u = u .before .before .before .before .before .before .before .before .b
 abbrev at-type : tie.After-put-u4 → tie.Start
 at-type u = at-head (u .before .before .before .before)
 
-abbrev at-tags : tie.After-put-tags → tie.Start
+abbrev at-tags : tie.After-put-names-chunk → tie.Start
 at-tags u = at-type (u .before .before .before .before)
 
-abbrev at-points : tie.After-put-points → tie.Start
+abbrev at-points : tie.After-put-points-chunk → tie.Start
 at-points u = at-tags (u .before .before .before .before)
 
 abbrev at-runs : tie.After-put-runs → tie.Start
@@ -34,10 +35,10 @@ at-runs u = at-points (u .before .before .before .before)
 
 -- after so many of the parts
 abbrev After : tie.Start → (k : ℕ) → List ℕ → ℕ → Type 0
-After s k out next = Ordered (canonical (meshFrom (tables s))) (drop k (fileParts (tables s) (s .args .n))) (now (s .args .out)) 0 out next
+After s k out next = PartsLeft (canonical (meshFrom (tables s))) (drop k (fileParts (tables s) (s .args .n))) (now (s .args .out)) 0 out next
 
-known-of : (s : tie.Start) → Known (now (s .args .points)) (now (s .args .polygons)) (now (s .args .vertices)) (now (s .args .names)) (now (s .args .name-bytes)) (now (s .args .records))
-known-of s = known _ _ _ _ _ _ (s .pre .mesh)
+facts-of : (s : tie.Start) → MeshFacts (now (s .args .points)) (now (s .args .polygons)) (now (s .args .vertices)) (now (s .args .names)) (now (s .args .name-bytes)) (now (s .args .records))
+facts-of s = mesh-facts _ _ _ _ _ _ (s .pre .mesh)
 
 started : (s : tie.Start) → After s 0 (now (s .args .out)) 0
 started s = begin (file-is (tables s) (s .pre .mesh) (s .pre .long)) (omega (arith, s .pre .long, s .pre .room))
@@ -48,11 +49,11 @@ headed u = turn (started (at-head u)) (u .put-head .ensures)
 typed : (u : tie.After-put-u4) → After (at-type u) 2 (u .put-u4 .last .0) (u .put-u4 .result)
 typed u = turn (headed (u .before .before .before .before)) (u .put-u4 .ensures)
 
-tagged : (u : tie.After-put-tags) → After (at-tags u) 3 (u .put-tags .last .0) (u .put-tags .result)
-tagged u = turn (typed (u .before .before .before .before)) (u .put-tags .ensures)
+tagged : (u : tie.After-put-names-chunk) → After (at-tags u) 3 (u .put-names-chunk .last .0) (u .put-names-chunk .result)
+tagged u = turn (typed (u .before .before .before .before)) (u .put-names-chunk .ensures)
 
-pointed : (u : tie.After-put-points) → After (at-points u) 4 (u .put-points .last .0) (u .put-points .result)
-pointed u = turn (tagged (u .before .before .before .before)) (u .put-points .ensures)
+pointed : (u : tie.After-put-points-chunk) → After (at-points u) 4 (u .put-points-chunk .last .0) (u .put-points-chunk .result)
+pointed u = turn (tagged (u .before .before .before .before)) (u .put-points-chunk .ensures)
 
 ran : (u : tie.After-put-runs) → After (at-runs u) 5 (u .put-runs .last .0) (u .put-runs .result)
 ran u = turn (pointed (u .before .before .before .before)) (u .put-runs .ensures)
@@ -66,26 +67,26 @@ put-head-requires c κs = room (started (c .before .before .before .before .befo
 put-u4-requires : tie.Need-put-u4-requires
 put-u4-requires c κs = rw length-bytes at (room (headed (c .before .before .before)))
 
-put-tags-requires : tie.Need-put-tags-requires
-put-tags-requires c κs =
+put-names-chunk-requires : tie.Need-put-names-chunk-requires
+put-names-chunk-requires c κs =
     let u = c .before .before .before in
-    let k = known-of (at-type u) in
-    (k .few-names, k .bytes-agree, room (typed u))
+    let k = facts-of (at-type u) in
+    (k .bytes-agree, room (typed u))
 
-put-points-requires : tie.Need-put-points-requires
-put-points-requires c κs = room (tagged (c .before .before .before))
+put-points-chunk-requires : tie.Need-put-points-chunk-requires
+put-points-chunk-requires c κs = room (tagged (c .before .before .before))
 
 put-runs-requires : tie.Need-put-runs-requires
 put-runs-requires c κs =
     let u = c .before .before .before in
     let s = at-points u in
-    let k = known-of s in
+    let k = facts-of s in
     (record { lent = record { few = k .few-polygons; few-vertices = k .few-vertices; agree = k .vertices-agree }; small = small-vertices (tables s) (s .pre .mesh) }, room (pointed u))
 
 put-surfaces-requires : tie.Need-put-surfaces-requires
 put-surfaces-requires c κs =
     let u = c .before .before .before in
-    let k = known-of (at-runs u) in
+    let k = facts-of (at-runs u) in
     record { agree = k .bytes-agree; a-record-each = k .a-record-each; room = room (ran u) }
 
 returns : tie.Need-returns
@@ -101,8 +102,8 @@ put-file-spec =
     sub-put-head
     put-head-requires
     put-u4-requires
-    put-tags-requires
-    put-points-requires
+    put-names-chunk-requires
+    put-points-chunk-requires
     put-runs-requires
     put-surfaces-requires
     same-length

@@ -1,7 +1,8 @@
+-- Where the answer is not 0 nothing is put, and where it is 0 the file fits.
 use borrow.Author.Needs.{needs}
 use denote.Ref.{now}
 use Rattle.format.specs.Mesh.{Tables, lent}
-use Rattle.writer.proofs.Writing.{refused, accepted, written-out}
+use Rattle.writer.proofs.Outputs.{refused, accepted, written-out}
 use Rattle.writer.proofs.write.Statement.{statement}
 use Rattle.writer.proofs.write.Tie as tie
 

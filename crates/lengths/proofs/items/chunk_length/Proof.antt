@@ -1,3 +1,4 @@
+-- The code is the definition.
 use native.Mathlib.Omega.{arith}
 use borrow.Author.Needs.{needs}
 use Rattle.format.specs.Chunks.{sizeOf}

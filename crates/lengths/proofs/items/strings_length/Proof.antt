@@ -1,3 +1,4 @@
+-- The length of each string is added to those before it.
 use Prim.Native.Nat.{_+_, _-_, _*_, _≤_, _^_}
 use mathlib.Core.Path.{ap, _∙_}
 use mathlib.Core.List.{map}
@@ -7,12 +8,12 @@ use borrow.Author.Needs.{needs}
 use Rattle.format.specs.Bytes.{sum}
 use Rattle.format.specs.Limits.{entryLimit}
 use Rattle.format.specs.Items.{stringSize}
-use Rattle.lengths.proofs.Adding.{Adding, begin, turn, end, sum-more, sum-none}
+use Rattle.lengths.proofs.SizeSum.{SizeSum, begin, turn, end, sum-more, sum-none}
 use Rattle.lengths.proofs.items.strings_length.Statement.{statement}
 use Rattle.lengths.proofs.items.strings_length.Tie as tie
 
 abbrev Inv-loop : tie.InvT-loop
-Inv-loop lengths bytes₀ i₀ bytes i = (i ≤ length lengths) × (length lengths ≤ entryLimit) × Adding (sum (map stringSize lengths)) bytes (sum (map stringSize (drop i lengths))) (i * (2 ^ 32 + 2))
+Inv-loop lengths bytes₀ i₀ bytes i = (i ≤ length lengths) × (length lengths ≤ entryLimit) × SizeSum (sum (map stringSize lengths)) bytes (sum (map stringSize (drop i lengths))) (i * (2 ^ 32 + 2))
 
 abbrev μ-loop : tie.MeasureT-loop
 μ-loop lengths bytes₀ i₀ bytes i = length lengths - i

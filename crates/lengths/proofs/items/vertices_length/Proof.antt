@@ -1,3 +1,4 @@
+-- The length of each vertex is added to those before it.
 use Prim.Native.Nat.{_-_, _*_, _≤_, ℕ}
 use mathlib.Core.Path.{ap, _∙_}
 use native.Mathlib.Omega.{arith}
@@ -5,12 +6,12 @@ use lib.ListN.{length, drop}
 use borrow.Author.Needs.{needs}
 use Rattle.format.specs.Canonical.{vxBytes}
 use Rattle.output.specs.Outputs.{total}
-use Rattle.lengths.proofs.Adding.{Adding, begin, turn, end, total-more, total-none}
+use Rattle.lengths.proofs.SizeSum.{SizeSum, begin, turn, end, total-more, total-none}
 use Rattle.lengths.proofs.items.vertices_length.Statement.{statement}
 use Rattle.lengths.proofs.items.vertices_length.Tie as tie
 
 abbrev Inv-loop : tie.InvT-loop
-Inv-loop vertices bytes₀ i₀ bytes i = (i ≤ length vertices) × Adding (total vxBytes vertices) bytes (total vxBytes (drop i vertices)) (4 * i)
+Inv-loop vertices bytes₀ i₀ bytes i = (i ≤ length vertices) × SizeSum (total vxBytes vertices) bytes (total vxBytes (drop i vertices)) (4 * i)
 
 abbrev μ-loop : tie.MeasureT-loop
 μ-loop vertices bytes₀ i₀ bytes i = length vertices - i

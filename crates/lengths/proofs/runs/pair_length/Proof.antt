@@ -1,3 +1,4 @@
+-- A polygon without a surface has no pair; a pair is an index and two bytes.
 use Prim.Native.Nat.{ℕ, _+_, _-_}
 use mathlib.Core.Path.{_∙_, ap, sym}
 use native.Mathlib.Omega.{arith}
@@ -5,8 +6,8 @@ use lib.ListN.{length}
 use borrow.Author.Tests.{eq-eqb}
 use borrow.Author.Needs.{needs}
 use Rattle.format.specs.Canonical.{vxBytes}
-use Rattle.laws.proofs.Items.{length-bytes}
-use Rattle.lengths.proofs.Paired.{pair-parts}
+use Rattle.format.proofs.CanonicalLengths.{length-bytes}
+use Rattle.lengths.proofs.Pairs.{pair-parts}
 use Rattle.lengths.proofs.runs.pair_length.Statement.{statement}
 use Rattle.lengths.proofs.runs.pair_length.Tie as tie
 

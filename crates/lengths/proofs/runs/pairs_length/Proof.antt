@@ -1,37 +1,52 @@
+-- A walk over the surfaces of a run: the length of each pair is added to those before it.
 use Prim.Native.Nat.{ℕ, _-_, _*_, _≤_}
-use mathlib.Core.Path.{ap, _∙_}
+use mathlib.Core.Path.{refl}
+use mathlib.Core.List.{List}
 use native.Mathlib.Omega.{arith}
-use lib.ListN.{length, drop}
+use lib.ListN.{length}
 use borrow.Author.Needs.{needs}
-use denote.Ref.{now}
 use Rattle.format.specs.Mesh.{polygonSize}
 use Rattle.mesh.specs.Lent.{column}
-use Rattle.lengths.specs.Sizes.{pairOf, pairsFrom}
-use Rattle.lengths.proofs.Adding.{Adding, begin, turn, end}
-use Rattle.lengths.proofs.Paired.{pairs-more, pairs-done}
+use Rattle.mesh.proofs.ColumnWalk.{ColumnWalk, begin, here, turn, end}
+use Rattle.lengths.specs.Sizes.{pairsFrom}
+use Rattle.lengths.proofs.SizeSum as sizes
+use Rattle.lengths.proofs.SizeSum.{SizeSum}
+use Rattle.lengths.proofs.Pairs.{pairs-more}
 use Rattle.lengths.proofs.runs.pairs_length.Statement.{statement}
 use Rattle.lengths.proofs.runs.pairs_length.Tie as tie
 
+-- `counted` keeps the number of a polygon from wrapping
+record PairsLeft (surfaces : List ℕ) (bytes i at : ℕ) (ss : List ℕ) : Type 0 where
+  counted : i ≤ at
+  adds : SizeSum (length (pairsFrom 0 surfaces)) bytes (length (pairsFrom i ss)) (2 * at)
+
 abbrev Inv-loop : tie.InvT-loop
-Inv-loop run bytes₀ i₀ at₀ bytes i at = (at ≤ length run) × (i ≤ at) × Adding (length (pairsFrom 0 (column polygonSize 2 run))) bytes (length (pairsFrom i (column polygonSize 2 (drop at run)))) (2 * at)
+Inv-loop run bytes₀ i₀ at₀ bytes i at = ColumnWalk run polygonSize 2 (PairsLeft (column polygonSize 2 run) bytes i at) at
 
 abbrev μ-loop : tie.MeasureT-loop
 μ-loop run bytes₀ i₀ at₀ bytes i at = length run - at
 
 loop-holds : tie.Need-loop-holds Inv-loop μ-loop
-loop-holds c = (omega arith, omega arith, begin)
+loop-holds c = begin (record { counted = omega arith; adds = sizes.begin })
 
 loop-again : tie.Need-loop-again Inv-loop μ-loop
 loop-again c =
     let u = c .before .before in
-    let w = u .before .loop .inv .2 in
-    (omega arith, omega arith, turn w (pairs-more _ (u .before .loop .at) (now (u .before .before .before .args .run)) (u .loop-test .taken)) (c .pair-length .ensures .size-is ∙ ap (λ (s : ℕ). length (pairOf (u .before .loop .i) s)) (c .before .surface .ensures)) (omega (arith, w .few, c .pair-length .ensures .few)))
+    let w = u .before .loop .inv in
+    let h = here w (omega arith) (u .loop-test .taken) (c .before .surface .ensures) in
+    let pair = c .pair-length .ensures in
+    turn w (omega arith) (u .loop-test .taken)
+    (record { counted = omega (arith, h .counted); adds = sizes.turn (h .adds) (pairs-more _ _ _) (pair .size-is) (omega (arith, h .adds .few, pair .few)) })
 
 add-bytes : tie.Need-add-bytes Inv-loop μ-loop
-add-bytes c = let w = loop-again c in omega (arith, w .0, w .2 .few)
+add-bytes c = let w = loop-again c in omega (arith, w .inside, w .left .adds .few)
+
+add-i : tie.Need-add-i Inv-loop μ-loop
+add-i c = let w = loop-again c in omega (arith, w .inside, w .left .counted)
 
 returns : tie.Need-returns Inv-loop μ-loop
-returns c = let w = c .before .loop .inv in end (w .2) (ap length (pairs-done (c .before .loop .i) (c .before .loop .at) (now (c .before .before .before .args .run)) (c .loop-test .left))) (omega (arith, w .0))
+unfolding pairsFrom
+returns c = let w = c .before .loop .inv in sizes.end (end w (c .loop-test .left) .adds) refl (omega (arith, w .inside))
 
 pub pairs-length-spec : {M : Type 1} → statement M
 pairs-length-spec =
@@ -44,7 +59,7 @@ pairs-length-spec =
     (λ c κs. search needs)
     (λ c κs. search needs)
     add-bytes
-    (λ c. search needs)
+    add-i
     (λ c. search needs)
     (λ c. search needs)
     loop-again

@@ -1,7 +1,8 @@
+-- A run is a POLS and, where it has pairs, a PTAG.
 use mathlib.Core.Path.{sym}
 use native.Mathlib.Omega.{arith}
 use borrow.Author.Needs.{needs}
-use Rattle.lengths.proofs.Chunked.{run-size}
+use Rattle.lengths.proofs.RunLengths.{run-size}
 use Rattle.lengths.proofs.runs.run_length.Statement.{statement}
 use Rattle.lengths.proofs.runs.run_length.Tie as tie
 

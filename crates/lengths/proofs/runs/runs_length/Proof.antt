@@ -1,61 +1,63 @@
+-- A walk over the runs that adds the length of each.
 use Prim.Native.Nat.{_-_}
 use native.Mathlib.Omega.{arith}
 use lib.ListN.{length}
 use borrow.Author.Needs.{needs}
-use Rattle.lengths.proofs.Standing.{later, run-few, room, run-lent}
-use Rattle.lengths.proofs.Chunked.{Chunked, begin, turn, end}
+use Rattle.mesh.proofs.RunWalk.{RunWalk, begin, later, run-few, room, run-lent}
+use Rattle.lengths.proofs.SizeSum as sizes
+use Rattle.lengths.proofs.RunLengths.{RunsLeft, runs-turn, runs-end}
 use Rattle.lengths.proofs.runs.runs_length.Statement.{statement}
 use Rattle.lengths.proofs.runs.runs_length.Tie as tie
 
 abbrev Inv-loop : tie.InvT-loop
-Inv-loop polygons vertices bytes₀ at₀ first₀ bytes at first = Chunked polygons vertices bytes at first
+Inv-loop polygons vertices bytes₀ at₀ first₀ bytes at first = RunWalk polygons vertices (RunsLeft polygons vertices bytes at first) at first
 
 abbrev μ-loop : tie.MeasureT-loop
 μ-loop polygons vertices bytes₀ at₀ first₀ bytes at first = length polygons - at
 
 loop-holds : tie.Need-loop-holds Inv-loop μ-loop
-loop-holds c = begin (c .before .before .pre)
+loop-holds c = begin (c .before .before .pre) sizes.begin
 
-sum-of-requires : tie.Need-sum-of-requires Inv-loop μ-loop
-sum-of-requires c κs =
+vertex-count-requires : tie.Need-vertex-count-requires Inv-loop μ-loop
+vertex-count-requires c κs =
     let e = c .before in
-    (omega arith, omega (arith, run-few (e .before .before .loop .inv .stands) (e .before .loop-test .taken) (e .run-end .ensures), e .before .before .loop .inv .stands .lent .few))
+    omega (arith, run-few (e .before .before .loop .inv) (e .before .loop-test .taken) (e .run-end .ensures), e .before .before .loop .inv .lent .few)
 
 add-last : tie.Need-add-last Inv-loop μ-loop
 add-last c =
     let e = c .before .before in
-    omega (arith, room (e .before .before .loop .inv .stands) (e .before .loop-test .taken) (e .run-end .ensures) (c .sum-of .ensures))
+    omega (arith, room (e .before .before .loop .inv) (e .before .loop-test .taken) (e .run-end .ensures) (c .vertex-count .ensures))
 
 mul-run-length-2 : tie.Need-mul-run-length-2 Inv-loop μ-loop
 mul-run-length-2 c =
     let e = c .before .before .before in
-    omega (arith, room (e .before .before .loop .inv .stands) (e .before .loop-test .taken) (e .run-end .ensures) (c .before .sum-of .ensures))
+    omega (arith, room (e .before .before .loop .inv) (e .before .loop-test .taken) (e .run-end .ensures) (c .before .vertex-count .ensures))
 
 part-run-length-end-2 : tie.Need-part-run-length-end-2 Inv-loop μ-loop
 part-run-length-end-2 c =
     let e = c .before .before .before in
-    room (e .before .before .loop .inv .stands) (e .before .loop-test .taken) (e .run-end .ensures) (c .before .sum-of .ensures)
+    room (e .before .before .loop .inv) (e .before .loop-test .taken) (e .run-end .ensures) (c .before .vertex-count .ensures)
 
 run-length-requires : tie.Need-run-length-requires Inv-loop μ-loop
 run-length-requires c κs =
     let e = c .before .before .before .before in
-    run-lent (e .before .before .loop .inv .stands) (e .before .loop-test .taken) (e .run-end .ensures) (c .before .before .sum-of .ensures)
+    run-lent (e .before .before .loop .inv) (e .before .loop-test .taken) (e .run-end .ensures) (c .before .before .vertex-count .ensures)
 
 loop-again : tie.Need-loop-again Inv-loop μ-loop
 loop-again c =
     let e = c .before .before .before .before .before in
-    turn (e .before .before .loop .inv) (e .before .loop-test .taken) (e .run-end .ensures) (c .before .before .before .sum-of .ensures) (c .run-length .ensures)
+    runs-turn (e .before .before .loop .inv) (e .before .loop-test .taken) (e .run-end .ensures) (c .before .before .before .vertex-count .ensures) (c .run-length .ensures)
 
 add-bytes : tie.Need-add-bytes Inv-loop μ-loop
-add-bytes c = let w = loop-again c in omega (arith, w .adds .few, w .stands .inside, w .stands .agree, w .stands .lent .few, w .stands .lent .few-vertices)
+add-bytes c = let w = loop-again c in omega (arith, w .walk .left .few, w .walk .inside, w .walk .agree, w .lent .few, w .lent .few-vertices)
 
 loop-less : tie.Need-loop-less Inv-loop μ-loop
 loop-less c =
     let e = c .before .before .before .before .before in
-    omega (arith, later (e .before .before .loop .inv .stands) (e .before .loop-test .taken) (e .run-end .ensures), e .run-end .ensures .few)
+    omega (arith, later (e .before .before .loop .inv) (e .before .loop-test .taken) (e .run-end .ensures), e .run-end .ensures .1)
 
 returns : tie.Need-returns Inv-loop μ-loop
-returns c = end (c .before .loop .inv) (c .loop-test .left)
+returns c = runs-end (c .before .loop .inv) (c .loop-test .left)
 
 pub runs-length-spec : {M : Type 1} → statement M
 runs-length-spec =
@@ -70,7 +72,7 @@ runs-length-spec =
     (λ c. search needs)
     (λ c. search needs)
     (λ c. search needs)
-    sum-of-requires
+    vertex-count-requires
     add-last
     (λ c. search needs)
     (λ c. search needs)

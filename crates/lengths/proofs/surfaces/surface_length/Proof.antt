@@ -1,3 +1,4 @@
+-- A defined name has a chunk of its string and 90 bytes, another has none.
 use mathlib.Core.Path.{_∙_}
 use native.Mathlib.Omega.{arith}
 use borrow.Author.Tests.{eq-eqb, ne-eqb}

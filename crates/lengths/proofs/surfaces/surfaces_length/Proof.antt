@@ -1,3 +1,4 @@
+-- The names and their records are walked together, and the length of each is added to those before it.
 use Prim.Native.Nat.{_+_, _-_, _*_, _≤_, _^_}
 use mathlib.Core.Path.{_≡_}
 use native.Mathlib.Omega.{arith}
@@ -8,12 +9,12 @@ use Rattle.format.specs.Limits.{entryLimit}
 use Rattle.format.specs.Mesh.{recordSize}
 use Rattle.mesh.specs.Lent.{column}
 use Rattle.lengths.specs.Sizes.{surfacesSize}
-use Rattle.lengths.proofs.Adding.{Adding, begin, turn, end, surfaces-more, surfaces-none}
+use Rattle.lengths.proofs.SizeSum.{SizeSum, begin, turn, end, surfaces-more, surfaces-none}
 use Rattle.lengths.proofs.surfaces.surfaces_length.Statement.{statement}
 use Rattle.lengths.proofs.surfaces.surfaces_length.Tie as tie
 
 abbrev Inv-loop : tie.InvT-loop
-Inv-loop lengths records bytes₀ i₀ at₀ bytes i at = (i ≤ length lengths) × (at ≡ recordSize * i) × ((length records ≡ recordSize * length lengths) × (length lengths ≤ entryLimit)) × Adding (surfacesSize lengths (column recordSize 0 records)) bytes (surfacesSize (drop i lengths) (column recordSize 0 (drop at records))) (i * (2 ^ 32 + 101))
+Inv-loop lengths records bytes₀ i₀ at₀ bytes i at = (i ≤ length lengths) × (at ≡ recordSize * i) × ((length records ≡ recordSize * length lengths) × (length lengths ≤ entryLimit)) × SizeSum (surfacesSize lengths (column recordSize 0 records)) bytes (surfacesSize (drop i lengths) (column recordSize 0 (drop at records))) (i * (2 ^ 32 + 101))
 
 abbrev μ-loop : tie.MeasureT-loop
 μ-loop lengths records bytes₀ i₀ at₀ bytes i at = length lengths - i

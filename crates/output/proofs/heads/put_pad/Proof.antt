@@ -1,8 +1,9 @@
+-- An even body has no pad, and an odd one a zero.
 use Prim.Native.Nat.{_%_}
 use mathlib.Core.Path.{_≡_, refl}
 use native.Mathlib.Omega.{arith}
 use borrow.Author.Needs.{needs}
-use Rattle.output.proofs.Filling.{nothing, a-byte}
+use Rattle.output.proofs.PutSoFar.{nothing, a-byte}
 use Rattle.output.proofs.heads.put_pad.Statement.{statement}
 use Rattle.output.proofs.heads.put_pad.Tie as tie
 

@@ -1,15 +1,16 @@
+-- Each byte is put behind those before it.
 use Prim.Native.Nat.{_-_}
 use mathlib.Core.Path.{refl}
 use native.Mathlib.Omega.{arith}
 use lib.ListN.{length, drop}
 use borrow.Author.Needs.{needs}
 use Rattle.format.proofs.Indexed.{past-end}
-use Rattle.output.proofs.Filling.{byte-more, nothing, a-byte, Filling, begin, room, turn, end}
+use Rattle.output.proofs.PutSoFar.{byte-more, nothing, a-byte, PutSoFar, begin, room, turn, end}
 use Rattle.output.proofs.items.put_bytes.Statement.{statement}
 use Rattle.output.proofs.items.put_bytes.Tie as tie
 
 abbrev Inv-loop : tie.InvT-loop
-Inv-loop out₀ at part next₀ i₀ out next i = Filling part (drop i part) out₀ at out next
+Inv-loop out₀ at part next₀ i₀ out next i = PutSoFar part (drop i part) out₀ at out next
 
 abbrev μ-loop : tie.MeasureT-loop
 μ-loop out₀ at part next₀ i₀ out next i = length part - i

@@ -1,9 +1,10 @@
+-- One or two of two zeros follow the name.
 use mathlib.Core.Path.{refl, sym}
 use native.Mathlib.Omega.{arith}
 use lib.Seq.{length-take-le}
 use borrow.Author.Needs.{needs}
 use denote.Ref.{now}
-use Rattle.output.proofs.Filling.{then-wrote, string-is, string-parts}
+use Rattle.output.proofs.PutSoFar.{then-wrote, string-is, string-parts}
 use Rattle.output.proofs.items.put_string.Statement.{statement}
 use Rattle.output.proofs.items.put_string.Tie as tie
 

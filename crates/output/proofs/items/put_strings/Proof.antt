@@ -1,3 +1,4 @@
+-- The names are put one after another; those that are left are cut from the bytes that are left.
 use Prim.Native.Nat.{_+_, _-_}
 use mathlib.Core.Path.{_≡_}
 use mathlib.Core.List.{map}
@@ -9,12 +10,12 @@ use Rattle.format.specs.Bytes.{sum, joined}
 use Rattle.format.specs.Canonical.{stringBytes}
 use Rattle.format.specs.Written.{pieces}
 use Rattle.format.proofs.Indexed.{sum-index}
-use Rattle.output.proofs.Filling.{Filling, begin, room, turn, end, strings-more, strings-none}
+use Rattle.output.proofs.PutSoFar.{PutSoFar, begin, room, turn, end, strings-more, strings-none}
 use Rattle.output.proofs.items.put_strings.Statement.{statement}
 use Rattle.output.proofs.items.put_strings.Tie as tie
 
 abbrev Inv-loop : tie.InvT-loop
-Inv-loop out₀ at lengths bytes next₀ i₀ from₀ out next i from = (from + sum (drop i lengths) ≡ length bytes) × Filling (joined (map stringBytes (pieces lengths bytes))) (joined (map stringBytes (pieces (drop i lengths) (drop from bytes)))) out₀ at out next
+Inv-loop out₀ at lengths bytes next₀ i₀ from₀ out next i from = (from + sum (drop i lengths) ≡ length bytes) × PutSoFar (joined (map stringBytes (pieces lengths bytes))) (joined (map stringBytes (pieces (drop i lengths) (drop from bytes)))) out₀ at out next
 
 abbrev μ-loop : tie.MeasureT-loop
 μ-loop out₀ at lengths bytes next₀ i₀ from₀ out next i from = length lengths - i

@@ -1,9 +1,10 @@
+-- Two bytes, one after the other.
 use mathlib.Core.Path.{refl}
 use native.Mathlib.Omega.{arith}
 use lib.ListN.{length-set}
 use borrow.Author.Needs.{needs}
 use Rattle.format.specs.Canonical.{bytes}
-use Rattle.output.proofs.Filling.{nothing, a-byte}
+use Rattle.output.proofs.PutSoFar.{nothing, a-byte}
 use Rattle.output.proofs.items.put_u2.Statement.{statement}
 use Rattle.output.proofs.items.put_u2.Tie as tie
 

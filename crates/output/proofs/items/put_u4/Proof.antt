@@ -1,9 +1,10 @@
+-- Four bytes are the two high ones and the two low ones.
 use Prim.Native.Nat.{_/_}
 use native.Mathlib.Omega.{arith}
 use borrow.Author.Needs.{needs}
 use Rattle.format.specs.Canonical.{bytes}
-use Rattle.laws.proofs.Items.{length-bytes}
-use Rattle.output.proofs.Filling.{then-wrote, halves}
+use Rattle.format.proofs.CanonicalLengths.{length-bytes}
+use Rattle.output.proofs.PutSoFar.{then-wrote, halves}
 use Rattle.output.proofs.items.put_u4.Statement.{statement}
 use Rattle.output.proofs.items.put_u4.Tie as tie
 

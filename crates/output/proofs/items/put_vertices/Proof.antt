@@ -1,3 +1,4 @@
+-- Each vertex is put behind those before it.
 use Prim.Native.Nat.{_-_, _^_}
 use mathlib.Core.Path.{_≡_}
 use mathlib.Core.List.{map}
@@ -8,12 +9,12 @@ use borrow.Author.Needs.{needs}
 use denote.Ref.{now}
 use Rattle.format.specs.Bytes.{joined, all}
 use Rattle.format.specs.Canonical.{vxBytes}
-use Rattle.output.proofs.Filling.{below-at, Filling, begin, room, turn, end, joined-more, joined-none}
+use Rattle.output.proofs.PutSoFar.{below-at, PutSoFar, begin, room, turn, end, joined-more, joined-none}
 use Rattle.output.proofs.items.put_vertices.Statement.{statement}
 use Rattle.output.proofs.items.put_vertices.Tie as tie
 
 abbrev Inv-loop : tie.InvT-loop
-Inv-loop out₀ at vertices next₀ i₀ out next i = (all (λ v. ltb v (2 ^ 24)) vertices ≡ true) × Filling (joined (map vxBytes vertices)) (joined (map vxBytes (drop i vertices))) out₀ at out next
+Inv-loop out₀ at vertices next₀ i₀ out next i = (all (λ v. ltb v (2 ^ 24)) vertices ≡ true) × PutSoFar (joined (map vxBytes vertices)) (joined (map vxBytes (drop i vertices))) out₀ at out next
 
 abbrev μ-loop : tie.MeasureT-loop
 μ-loop out₀ at vertices next₀ i₀ out next i = length vertices - i

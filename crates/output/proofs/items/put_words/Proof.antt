@@ -1,3 +1,4 @@
+-- Each word is put behind those before it.
 use Prim.Native.Nat.{_-_}
 use mathlib.Core.List.{map}
 use lib.ListN.{length, drop}
@@ -5,13 +6,13 @@ use borrow.Author.Needs.{needs}
 use denote.Ref.{now}
 use Rattle.format.specs.Bytes.{joined}
 use Rattle.format.specs.Canonical.{bytes}
-use Rattle.laws.proofs.Items.{length-bytes}
-use Rattle.output.proofs.Filling.{Filling, begin, room, turn, end, joined-more, joined-none}
+use Rattle.format.proofs.CanonicalLengths.{length-bytes}
+use Rattle.output.proofs.PutSoFar.{PutSoFar, begin, room, turn, end, joined-more, joined-none}
 use Rattle.output.proofs.items.put_words.Statement.{statement}
 use Rattle.output.proofs.items.put_words.Tie as tie
 
 abbrev Inv-loop : tie.InvT-loop
-Inv-loop out₀ at words next₀ i₀ out next i = Filling (joined (map (bytes 4) words)) (joined (map (bytes 4) (drop i words))) out₀ at out next
+Inv-loop out₀ at words next₀ i₀ out next i = PutSoFar (joined (map (bytes 4) words)) (joined (map (bytes 4) (drop i words))) out₀ at out next
 
 abbrev μ-loop : tie.MeasureT-loop
 μ-loop out₀ at words next₀ i₀ out next i = length words - i

@@ -1,4 +1,4 @@
--- Beyond the end the default of the list is 0. Assumes nothing.
+-- Beyond the end the default of the list is 0.
 use borrow.Author.Needs.{needs}
 use mathlib.Core.Path.{sym}
 use denote.Ref.{now}

@@ -1,4 +1,4 @@
--- To compare a place with the last one that n bytes can stand at is to compare their end with the slice's. Assumes nothing.
+-- To compare a place with the last one that n bytes can stand at is to compare their end with the slice's.
 use mathlib.Core.Path.{_≡_, refl, sym}
 use mathlib.Core.Bool.{Bool, true, false}
 use Prim.Native.Nat.{ℕ, _+_, _-_, _≤_}

@@ -1,4 +1,4 @@
--- Two bytes of a list are its elements at the place and at the one after it. Assumes nothing.
+-- Two bytes of a list are its elements at the place and at the one after it.
 use borrow.Author.Needs.{needs}
 use mathlib.Core.Path.{sym}
 use native.Mathlib.Omega.{arith}

@@ -1,4 +1,4 @@
--- The upper half of sixteen bits is moved down by 65,536. Assumes nothing.
+-- The upper half of sixteen bits is moved down by 65,536.
 use borrow.Author.Needs.{needs}
 use mathlib.Core.Path.{_∙_}
 use mir.Facts.{toZ-ofZ}

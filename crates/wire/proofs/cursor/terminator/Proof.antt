@@ -1,4 +1,4 @@
--- `bodies::items::terminator` meets its contract: at each turn the first zero byte from n on is the one from the start on. Assumes nothing.
+-- At each turn the first zero byte from n on is the first one from the start on.
 use mathlib.Core.Path.{_≡_, refl, sym, _∙_, ap}
 use mathlib.Core.List.{List}
 use Prim.Native.Nat.{ℕ, suc, _+_, _-_, _≤_, _<_}

@@ -1,4 +1,4 @@
--- Four bytes are two pairs, the high one first. Assumes nothing.
+-- Four bytes are two pairs, the high one first.
 use borrow.Author.Needs.{needs}
 use mathlib.Core.Path.{sym}
 use Rattle.format.proofs.Places.{four-is}

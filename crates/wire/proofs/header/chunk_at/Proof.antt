@@ -1,4 +1,4 @@
--- The tag is good and the length has four bytes, and the rest is `framed`'s. Assumes nothing.
+-- The tag is good and the length has four bytes, and the rest is `framed`'s.
 use borrow.Author.Needs.{needs}
 use denote.Ref.{now}
 use borrow.Author.Tests.{not-true, not-false}

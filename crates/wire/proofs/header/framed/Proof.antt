@@ -1,4 +1,4 @@
--- Each refusal is one test of a well-formed chunk that fails, in its order. Assumes nothing.
+-- Each refusal is one test of a well-formed chunk that fails, in its order.
 use borrow.Author.Needs.{needs}
 use borrow.Author.Tests.{not-true, not-false}
 use Rattle.wire.proofs.Headers.{too-long, no-pad, found}

@@ -1,4 +1,4 @@
--- There is no pad byte, or one. Assumes nothing.
+-- There is no pad byte, or one.
 use borrow.Author.Needs.{needs}
 use denote.Ref.{now}
 use Rattle.wire.proofs.Headers.{no-odd, one-odd}

@@ -1,4 +1,4 @@
--- The tag is good and the length has two bytes, and the rest is `framed`'s. Assumes nothing.
+-- The tag is good and the length has two bytes, and the rest is `framed`'s.
 use borrow.Author.Needs.{needs}
 use denote.Ref.{now}
 use borrow.Author.Tests.{not-true, not-false}

@@ -1,4 +1,4 @@
--- Four bytes tested one by one are a list of four tested as a whole. Assumes nothing.
+-- Four bytes tested one by one are a list of four tested as a whole.
 use borrow.Author.Needs.{needs}
 use denote.Ref.{now}
 use Rattle.wire.proofs.Headers.{tags-are}

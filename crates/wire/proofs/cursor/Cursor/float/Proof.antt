@@ -1,4 +1,4 @@
--- A float is a U4 whose value is judged after it is known not to be cut. Assumes nothing.
+-- A float is a U4 whose value is judged after it is known not to be cut.
 use mathlib.Core.Path.{sym, _∙_}
 use borrow.Author.Needs.{needs}
 use Rattle.format.proofs.Places.{float-cut, float-is, float-bad}

@@ -1,4 +1,4 @@
--- An I2 is a U2 whose sixteen bits stand for a signed number. Assumes nothing.
+-- An I2 is a U2 whose sixteen bits stand for a signed number.
 use mathlib.Core.Path.{_≡_, sym, _∙_}
 use native.Mathlib.Omega.{arith}
 use mir.Syntax.{w16}

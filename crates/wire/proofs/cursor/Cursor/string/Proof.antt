@@ -1,4 +1,4 @@
--- The terminator's offset gives the string's size, and its last byte tells whether its zeros are there. Assumes nothing.
+-- The terminator's offset gives the string's size, and its last byte tells whether its zeros are there.
 use borrow.Author.Needs.{needs}
 use mathlib.Core.Path.{_≡_}
 use Prim.Native.Nat.{_-_}

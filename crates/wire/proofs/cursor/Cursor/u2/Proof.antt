@@ -1,4 +1,4 @@
--- Two bytes stand at the place, or the item is cut. Assumes nothing.
+-- Two bytes stand at the place, or the item is cut.
 use mathlib.Core.Path.{sym, _∙_}
 use native.Mathlib.Omega.{arith}
 use borrow.Author.Needs.{needs}

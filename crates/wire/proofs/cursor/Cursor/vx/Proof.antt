@@ -1,4 +1,4 @@
--- By its first byte a VX is the low 24 bits of a U4, or a U2. Assumes nothing.
+-- By its first byte a VX is the low 24 bits of a U4, or a U2.
 use borrow.Author.Needs.{needs}
 use Rattle.format.proofs.Places.{vx-cut, vx-long, vx-short}
 use Rattle.wire.proofs.cursor.Cursor.vx.Statement.{statement}

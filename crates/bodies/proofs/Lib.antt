@@ -1,7 +1,0 @@
-pub mod Floats
-pub mod Heads
-pub mod Naming
-pub mod Sameness
-pub mod Signs
-pub mod Tallying
-pub mod Runs

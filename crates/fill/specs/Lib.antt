@@ -1,3 +1,0 @@
-pub mod Polygons
-pub mod Puts
-pub mod Taggings

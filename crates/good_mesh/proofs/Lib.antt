@@ -1,0 +1,4 @@
+pub mod GoodPolygons
+pub mod NameWalk
+pub mod RecordWalk
+pub mod MeshTests

@@ -1,0 +1,4 @@
+pub mod Decimal
+pub mod PrintedSoFar
+pub mod PrintedVertices
+pub mod PrintedPolygons

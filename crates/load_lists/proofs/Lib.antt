@@ -1,0 +1,7 @@
+pub mod PointWords
+mod PutPoints
+mod PutBytes
+mod PutNames
+pub mod PointsChunk
+mod PointsWalk
+mod NamesWalk

@@ -1,0 +1,3 @@
+pub mod PolygonsInTables
+mod PolygonsChunk
+mod PolygonsWalk

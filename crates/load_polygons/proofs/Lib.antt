@@ -1,0 +1,3 @@
+mod PutLwobPolygon
+mod PutLwo2Polygon
+mod PutEntries

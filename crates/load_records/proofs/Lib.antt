@@ -1,0 +1,4 @@
+mod SettledRecord
+mod LastValues
+mod SurfaceRecord
+mod MissingRecords

@@ -1,0 +1,2 @@
+pub mod LastValues
+pub mod Contracts

@@ -1,0 +1,3 @@
+mod RecordAtNames
+mod SurfaceChunk
+mod SurfacesWalk

@@ -1,0 +1,2 @@
+pub mod PutTaggings
+pub mod SplitPut

@@ -1,0 +1,167 @@
+-- A tag stored in a polygon's third word is what the specification's retagging changes in the words of the polygons.
+use mathlib.Core.Path.{_≡_, refl, sym, ap, _∙_}
+use mathlib.Core.Bool.{true, false}
+use mathlib.Core.List.{List, [], _∷_, _++_, foldl-append, append-assoc, append-nil}
+use Prim.Native.Nat.{ℕ, zero, suc, _+_, _*_, _≤_, _<_}
+use native.Mathlib.Omega.{arith}
+use lib.ListN.{length, take, drop, set, length-append, length-take, length-set}
+use lib.Seq.{set-append-left}
+use lib.Dec.{ltb}
+use borrow.Author.Tests.{eqb-true, ltb-true}
+use Rattle.format.specs.declared.Fault.the-variants.{ItemCut, PolygonNumber, SurfaceNumber}
+use Rattle.format.specs.Bytes.{_is_, joined, number, spelt}
+use Rattle.format.specs.Items.{fine, fault, _andThen_, Reader, _>>=_, _or_unless_, whole, u2, u4, vx}
+use Rattle.format.specs.Chunks.{unjudged}
+use Rattle.format.specs.Mesh.{polygonSize, Polygon}
+use Rattle.format.specs.Bodies.{Part, tagging, pair, taggingBody}
+use Rattle.format.specs.Rules.{retag, tagged}
+use Rattle.format.specs.Contracts.{Put, Says, ReadsAt, JudgedAt, Succeeds, keep, itself, taking, got}
+use Rattle.format.proofs.ReaderSteps.{on, given, exact, exactly, was-good, used-up}
+use Rattle.format.proofs.Entries.{ManyLoop, many-begin, many-turn, many-end}
+use Rattle.format.proofs.Inversion.{sound-first, sound-next, sound-good, sound-whole, many-sound}
+use Rattle.format.proofs.Tagging.{tagged-length}
+use Rattle.validate_taggings.specs.Contracts.{pairsOf}
+use Rattle.load_taggings.specs.Contracts.{wordsOf, TagsRoom, TagsPut}
+use Rattle.wire.proofs.ReadAgain.{never, sound-item}
+
+-- ---- a store amongst words that were put
+
+set-after : (xs ys : List ℕ) (n v : ℕ) → set (xs ++ ys) (length xs + n) v ≡ xs ++ set ys n v
+set-after [] ys n v = let e : 0 + n ≡ n = omega arith in rw e
+set-after (x ∷ xs) ys n v = let e : suc (length xs) + n ≡ suc (length xs + n) = omega arith in rw e (ap (λ l. x ∷ l) (set-after xs ys n v))
+
+put-over : {t t′ ws : List ℕ} {m : ℕ} → Put t m ws t′ → (k v : ℕ) → k < length ws → m + length ws ≤ length t → Put t m (set ws k v) (set t′ (m + k) v)
+put-over {t} {t′} {ws} {m} p k v inside room =
+    let front : length (take m t) ≡ m = simp length-take (omega arith) in
+    let near : m + k < length (take m t ++ ws) = simp (length-append, length-take) (omega arith) in
+    let over : set (take m t ++ ws) (m + k) v ≡ take m t ++ set ws k v = rw front at (set-after (take m t) ws k v) in
+    record { put = rw (p .put, length-set ws k v, set-append-left (take m t ++ ws) (drop (m + length ws) t) (m + k) v near, over) }
+
+-- ---- polygons
+
+pub words-size : (qs : List Polygon) → length (wordsOf qs) ≡ length qs * polygonSize
+unfolding joined
+words-size [] = refl
+words-size (q ∷ qs) = omega (arith, words-size qs)
+
+-- the type of a PTAG of surfaces
+abbrev surf : ℕ
+surf = number (spelt "SURF")
+
+-- the surface number is the third of a polygon's words
+retag-words : (p n : ℕ) (qs : List Polygon) → p < length qs → set (wordsOf qs) (p * polygonSize + 2) n ≡ wordsOf (retag surf p n qs)
+unfolding joined retag number
+retag-words p n [] h = absurd (omega arith)
+retag-words zero n (q ∷ qs) h = refl
+retag-words (suc p) n (q ∷ qs) h =
+    let e : suc p * polygonSize + 2 ≡ suc (suc (suc (p * polygonSize + 2))) = omega arith in
+    rw e (ap (λ l. q .kind ∷ length (q .vertices) ∷ q .surface ∷ l) (retag-words p n qs (omega arith)))
+
+put-tag : {t t′ : List ℕ} {i : ℕ} (qs : List Polygon) (ts : List (ℕ × ℕ)) (p n : ℕ) → Put t i (wordsOf (tagged qs surf ts)) t′ → p < length qs
+    → i + length qs * polygonSize ≤ length t
+    → Put t i (wordsOf (tagged qs surf (ts ++ ((p, n) ∷ [])))) (set t′ (i + (p * polygonSize + 2)) n)
+put-tag qs ts p n w h room =
+    let now = tagged qs surf ts in
+    let l : length now ≡ length qs = tagged-length surf ts qs in
+    let z : length (wordsOf now) ≡ length now * polygonSize = words-size now in
+    let e : tagged qs surf (ts ++ ((p, n) ∷ [])) ≡ retag surf p n now = foldl-append (λ now t. retag surf (t .0) (t .1) now) qs ts ((p, n) ∷ []) in
+    rw (e, ← retag-words p n now (omega (arith, l))) (put-over w (p * polygonSize + 2) n (omega (arith, l, z)) (omega (arith, l, z)))
+
+-- a body is judged to hold one thing only
+held : {header at : ℕ} {r : Reader Part} {s : List ℕ} {t u : ℕ} {ts us : List (ℕ × ℕ)} → JudgedAt header at r itself s (fine (tagging t ts))
+    → whole header r at (drop at s) ≡ fine (tagging u us) → (t ≡ u) × (ts ≡ us)
+unfolding _andThen_
+held j e = let same = rw e at (j .is) in (cc, cc)
+
+-- ---- the pairs of a body
+
+-- the pairs `done` are put, and those that follow are read from here on
+pub record TagsStored (s : List ℕ) (from polygons names : ℕ) (table₀ : List ℕ) (i at : ℕ) (table : List ℕ) : Type 0 where
+  pub room : TagsRoom (whole 0 (pairsOf polygons names) from (drop from s)) polygons table₀ i
+  pub done : List (ℕ × ℕ)
+  pub rest : ManyLoop (keep itself (pairsOf polygons names from (drop from s))) (pair polygons names) s at (λ ts. tagging surf (done ++ ts))
+  pub kept : length table ≡ length table₀
+  pub put : (qs : List Polygon) → length qs ≡ polygons → Put table₀ i (wordsOf qs) table₀ → Put table₀ i (wordsOf (tagged qs surf done)) table
+
+pub tags-begin : {s : List ℕ} {from polygons names : ℕ} {table : List ℕ} {i : ℕ}
+    → TagsRoom (whole 0 (pairsOf polygons names) from (drop from s)) polygons table i
+    → TagsStored s from polygons names table i from table
+tags-begin r = record { room = r; done = []; rest = many-begin (tagging surf) itself (tagging surf) (λ ts. refl); kept = refl; put = λ qs l w. w }
+
+module _ {s : List ℕ} {from polygons names : ℕ} {table₀ : List ℕ} {i at : ℕ} {table : List ℕ} (f : TagsStored s from polygons names table₀ i at table) where
+  module _ (some : at < length s) where
+    pair-sound : Succeeds (pair polygons names at (drop at s))
+    pair-sound =
+        let u = sound-whole (pairsOf polygons names) 0 from (drop from s) (record { value = _; is = f .room .sound }) in
+        let same : Says (pairsOf polygons names) itself s from (pairsOf polygons names from (drop from s)) = exact refl in
+        let e = many-sound (f .rest) some (record { value = u .got; is = sym (same .is) ∙ u .is }) in
+        record { value = e .first; is = e .is }
+
+    polygon-sound : Succeeds ((vx or PolygonNumber unless (λ p. ltb p polygons)) at (drop at s))
+    unfolding pair
+    polygon-sound = sound-first _ _ at (drop at s) pair-sound
+
+    pub polygon-fine : Succeeds (vx at (drop at s))
+    polygon-fine = sound-item vx PolygonNumber (λ p. ltb p polygons) at (drop at s) polygon-sound
+
+    module _ {p next : ℕ} (w : ReadsAt vx (taking 2) s at (got s p next)) where
+      polygon-says : Says (vx or PolygonNumber unless (λ p. ltb p polygons)) itself s at (got s p next)
+      polygon-says = sound-good PolygonNumber (λ p. ltb p polygons) (w .says) polygon-sound
+
+      below : p < polygons
+      below = ltb-true p polygons (was-good vx PolygonNumber (λ p. ltb p polygons) polygon-says)
+
+      -- the polygon's third word stands in the table
+      pub stored : i + (p * polygonSize + 2) < length table
+      stored = omega (arith, below, f .kept, f .room .fits)
+
+      tag-sound : Succeeds ((u2 or SurfaceNumber unless (λ t. ltb t names)) next (drop next s))
+      unfolding pair
+      tag-sound = sound-first _ _ next (drop next s) (sound-next _ _ polygon-says pair-sound)
+
+      pub tag-fine : Succeeds (u2 next (drop next s))
+      tag-fine = sound-item u2 SurfaceNumber (λ t. ltb t names) next (drop next s) tag-sound
+
+      module _ {t last : ℕ} (v : ReadsAt u2 (taking 2) s next (got s t last)) where
+        pair-says : Says (pair polygons names) itself s at (got s (p, suc t) last)
+        unfolding pair
+        pair-says = on _ polygon-says (on _ (sound-good SurfaceNumber (λ t. ltb t names) (v .says) tag-sound) (given refl))
+
+        pub tags-turn : TagsStored s from polygons names table₀ i last (set table (i + (p * polygonSize + 2)) (t + 1))
+        tags-turn =
+            let e : t + 1 ≡ suc t = omega arith in
+            rw e
+            (record {
+              room = f .room;
+              done = f .done ++ ((p, suc t) ∷ []);
+              rest = many-turn (f .rest) some pair-says (omega (arith, w .moves, v .moves))
+                  (λ x xs same. rw same (ap (tagging surf) (sym (append-assoc (f .done) ((p, suc t) ∷ []) xs))));
+              kept = length-set table (i + (p * polygonSize + 2)) (suc t) ∙ f .kept;
+              put = λ qs l h. put-tag qs (f .done) p (suc t) (f .put qs l h) (omega (arith, l, below)) (omega (arith, l, f .room .fits));
+            })
+
+  pub tags-end : length s ≤ at → TagsPut (whole 0 (pairsOf polygons names) from (drop from s)) polygons table₀ i table
+  tags-end end =
+      let j : JudgedAt 0 from (pairsOf polygons names) itself s (fine (tagging surf (f .done ++ []))) = used-up (record { is = many-end (f .rest) end }) end in
+      record { put = λ qs type ts l e h. rw (← held j e .0, ← held j e .1, append-nil (f .done)) (f .put qs l h) }
+
+-- ---- the type of a body
+
+module _ (polygons names : ℕ) {s : List ℕ} where
+  pub type-never-cut : {table : List ℕ} {i : ℕ} → TagsRoom (whole 0 (taggingBody polygons names) 8 (drop 8 s)) polygons table i
+      → ReadsAt u4 (taking 4) s 8 (fault ItemCut 8) → ⊥
+  unfolding taggingBody
+  type-never-cut r w =
+      let u = sound-whole (taggingBody polygons names) 0 8 (drop 8 s) (record { value = _; is = r .sound }) in
+      never (sound-first u4 _ 8 (drop 8 s) (record { value = u .got; is = u .is })) (w .says)
+
+  module _ {t next : ℕ} (w : ReadsAt u4 (taking 4) s 8 (got s t next)) where
+    pub of-surfaces : t is "SURF" ≡ true → whole 0 (taggingBody polygons names) 8 (drop 8 s) ≡ whole 0 (pairsOf polygons names) next (drop next s)
+    unfolding taggingBody whole number _>>=_ _andThen_
+    of-surfaces e = rw (exactly (w .says), eqb-true t _ e)
+
+    pub of-others : {table : List ℕ} {i : ℕ} → t is "SURF" ≡ false → TagsPut (whole 0 (taggingBody polygons names) 8 (drop 8 s)) polygons table i table
+    unfolding taggingBody unjudged whole number _>>=_ _andThen_
+    of-others e =
+        let empty : whole 0 (taggingBody polygons names) 8 (drop 8 s) ≡ fine (tagging t []) = rw (exactly (w .says), e) in
+        record { put = λ qs type ts l f h. let none : ts ≡ [] = cc (empty, f) in rw none h }

@@ -1,0 +1,3 @@
+pub mod PutVertices
+pub mod VerticesAfterCount
+pub mod PutLwobEntry

@@ -1,0 +1,16 @@
+// The words of a polygon into the table of polygons.
+ghost use Prim.Native.Nat.{_+_, _≤_};
+ghost use mathlib.Core.List.{[], _∷_};
+ghost use lib.ListN.{length};
+ghost use Rattle.format.specs.Mesh.{polygonSize};
+ghost use Rattle.format.specs.Contracts.{Put};
+
+// The three words of a polygon into the table from the index i on.
+pub fn put_words(table: &mut [u32], i: usize, kind: u32, count: u32, surface: u32)
+    requires { ⌜ i + polygonSize ≤ length (now table) ⌝ }
+    ensures { λ _. ⌜ Put (now (table .entry)) i (kind ∷ count ∷ surface ∷ []) (now (table .exit)) ⌝ }
+{
+    table[i] = kind;
+    table[i + 1] = count;
+    table[i + 2] = surface;
+}

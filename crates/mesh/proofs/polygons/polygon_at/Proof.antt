@@ -1,0 +1,14 @@
+-- Each field is one word of the entry.
+use borrow.Author.Needs.{needs}
+use Rattle.mesh.proofs.polygons.polygon_at.Statement.{statement}
+use Rattle.mesh.proofs.polygons.polygon_at.Tie as tie
+
+returns : tie.Need-returns
+returns c =
+    let third = c .before in
+    rw (c .wide .ensures .0, third .word-at3 .ensures, third .before .word-at2 .ensures, third .before .before .word-at .ensures)
+
+pub polygon-at-spec : {M : Type 1} → statement M
+polygon-at-spec =
+    tie.close
+    (tie.spec (λ c κs. search needs) (λ c κs. search needs) (λ c κs. search needs) (λ c κs. search needs) (λ c. search needs) returns)

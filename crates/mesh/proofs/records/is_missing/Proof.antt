@@ -1,9 +1,0 @@
-use borrow.Author.Needs.{needs}
-use Rattle.mesh.proofs.records.is_missing.Statement.{statement}
-use Rattle.mesh.proofs.records.is_missing.Tie as tie
-
-returns : tie.Need-returns
-returns c = c .same-words .ensures
-
-pub is-missing-spec : {M : Type 1} → statement M
-is-missing-spec = tie.close (tie.spec (λ c. search needs) (λ c κs. search needs) returns)

@@ -1,7 +1,0 @@
-mod Quotient
-mod Patterns
-mod Valuing
-mod SubChunks
-mod Settling
-mod ValueWalk
-mod SurfaceBody

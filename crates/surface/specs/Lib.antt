@@ -1,4 +1,0 @@
-pub mod Levels
-pub mod Values
-pub mod Nesting
-pub mod Records

@@ -1,0 +1,3 @@
+mod RoundedQuotient
+mod FiniteFloats
+pub mod ValueBodies

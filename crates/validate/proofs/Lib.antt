@@ -1,0 +1,5 @@
+mod FileCounts
+mod OneChunkMore
+mod ChunksWalk
+mod FileJudged
+pub mod NeedsBound

@@ -1,0 +1,64 @@
+// The body of a POLS chunk of an LWO2 file.
+ghost use mathlib.Core.Path.{_≡_};
+ghost use Rattle.format.specs.Bodies.{polygon, polygonType, polygonKind, polygonsBody};
+ghost use Rattle.format.specs.Contracts.{Judged};
+ghost use Rattle.validate_polygons.specs.Contracts.{PolygonAt, sizesOf, polygonsAs};
+use crate::entries::Entry;
+use crate::entries::Layout;
+use crate::entries::Polygons;
+use crate::entries::entries;
+use format::Fault;
+use format::tags::FACE;
+use format::tags::PTCH;
+use validate_vertices::vertices::lwo2_vertices;
+use wire::Refusal;
+use wire::Run;
+use wire::cursor::Cursor;
+use wire::cursor::Number;
+
+// The types that are read.
+fn polygon_type(t: u32) -> bool
+    ensures { λ r. ⌜ r ≡ polygonType t ⌝ }
+{
+    (t == FACE) | (t == PTCH)
+}
+
+// The kind of the polygons of a type: 1 for faces and 2 for patches.
+pub fn polygon_kind(t: u32) -> u32
+    ensures { λ r. ⌜ r ≡ polygonKind t ⌝ }
+{
+    if t == FACE { 1 } else { 2 }
+}
+
+// A polygon of any kind: it has no surface number and no details of its own.
+pub fn polygon(s: &[u8], c: Cursor, points: usize) -> Entry
+    ensures { λ r. ⌜ PolygonAt points (now (s .entry)) (c .at) r ⌝ }
+{
+    match lwo2_vertices(s, c, points) {
+        Run::Stop(f) => Entry::Stop(f),
+        Run::Got(vertices, next) => Entry::Got {
+            vertices,
+            details: 0,
+            next,
+        },
+    }
+}
+
+pub fn polygons_body(s: &[u8], points: usize) -> Polygons
+    ensures { λ r. ⌜ Judged (polygonsBody points) sizesOf (now (s .entry)) (polygonsAs r) ⌝ }
+{
+    let start = Cursor { at: 8 };
+    let Number::Got(t, first) = start.u4(s) else {
+        return Polygons::Stop(Refusal {
+            why: Fault::ItemCut,
+            at: 8,
+        });
+    };
+    if !polygon_type(t) {
+        return Polygons::Stop(Refusal {
+            why: Fault::PolygonType,
+            at: 8,
+        });
+    }
+    entries(s, first, Layout::Polygons(polygon_kind(t)), points, 0)
+}

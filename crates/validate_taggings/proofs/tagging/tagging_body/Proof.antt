@@ -1,0 +1,34 @@
+-- The type is read, and pairs follow it, or bytes that are not judged.
+use mathlib.Core.List.{[]}
+use borrow.Author.Tests.{eq-eqb, ne-eqb}
+use borrow.Author.Needs.{needs}
+use Rattle.format.specs.Bodies.{tagging, taggingBody}
+use Rattle.format.specs.Contracts.{nothing}
+use Rattle.format.specs.Bytes.{number}
+use Rattle.format.proofs.ReaderSteps.{off, faulty}
+use Rattle.wire.proofs.FirstItem.{after-item, rest-unjudged}
+use Rattle.validate_taggings.proofs.tagging.tagging_body.Statement.{statement}
+use Rattle.validate_taggings.proofs.tagging.tagging_body.Tie as tie
+
+returns : tie.Need-returns
+unfolding taggingBody
+returns c = faulty (off _ ((rw (c .enum-told .given .1) at (c .before .before .u4 .ensures)) .says))
+
+returns-2 : tie.Need-returns-2
+unfolding taggingBody number
+returns-2 c =
+    let u = c .before .before .before in
+    let w = rw (u .t .given .1) at (u .before .before .u4 .ensures) in
+    after-item _ (w .says) (rw (c .before .if1 .taken) (c .pairs .ensures))
+
+returns-3 : tie.Need-returns-3
+unfolding taggingBody number
+returns-3 c =
+    let u = c .before .before in
+    let w = rw (u .t .given .1) at (u .before .before .u4 .ensures) in
+    after-item _ (w .says) (rw (ne-eqb _ _ (c .if1 .left)) (rest-unjudged [] (tagging _) nothing))
+
+pub tagging-body-spec : {M : Type 1} → statement M
+tagging-body-spec =
+    tie.close
+    (tie.spec (λ c κs. search needs) (λ c. search needs) (λ c. search needs) returns (λ c κs. search needs) returns-2 returns-3)

@@ -1,0 +1,2 @@
+mod CountedVertices
+pub mod SignedSurfaces

@@ -1,0 +1,4 @@
+// First pass over what polygons start with: a count and vertices, and in an LWOB file a surface number after them. The slice and a cursor come in, and the
+// count with the moved cursor goes out, or the first fault with its place; nothing is written.
+pub mod lwob_entry;
+pub mod vertices;

@@ -1,0 +1,2 @@
+pub mod PolsEntries
+pub mod Runs

@@ -1,0 +1,131 @@
+-- A run is a POLS and, where some polygon has a surface, a PTAG; all runs are a walk that puts the chunks of each behind those before it.
+use Prim.Native.Nat.{ℕ, suc, _+_, _-_, _<_, _≤_, _^_}
+use mathlib.Core.Path.{_≡_, refl, sym, _∙_}
+use mathlib.Core.List.{List, [], _∷_, _++_, map, append-nil}
+use mathlib.Core.Bool.{Bool, true, false, _&&_, true≢false}
+use native.Mathlib.Omega.{arith}
+use lib.Dec.{eqb, ltb}
+use lib.ListN.{length, take, drop, length-append}
+use borrow.Author.Tests.{eq-eqb, ne-eqb}
+use Rattle.format.specs.Bytes.{if_then_else_, spelt, all, sum, joined}
+use Rattle.format.specs.Mesh.{Polygon, word, polygonSize}
+use Rattle.format.specs.Canonical.{bytes, vxBytes, chunkBytes, polygonBytes, typeOf, pairsOf, pairBytes, runs, unlessEmpty, runChunks, encoded}
+use Rattle.format.specs.Written.{vertexCounts}
+use Rattle.format.proofs.Puts.{joined-map-append}
+use Rattle.format.proofs.Facts.{all-part, all-first, all-rest}
+use Rattle.format.proofs.CanonicalLengths.{length-bytes}
+use Rattle.mesh.specs.Lent.{entryAt, column, polygonsOf}
+use Rattle.mesh.specs.Polygons.{runEnd}
+use Rattle.mesh.proofs.Entries.{polygons-at}
+use Rattle.mesh.proofs.RunWalk as run-walk
+use Rattle.mesh.proofs.RunWalk.{RunWalk}
+use Rattle.output.specs.Outputs.{Wrote, chunksBytes}
+use Rattle.lengths.specs.Sizes.{pairsFrom}
+use Rattle.write_runs.specs.Runs.{unlessNoBytes, Indexed, RunLent}
+use Rattle.lengths.proofs.ItemLengths.{some-pairs}
+use Rattle.output.proofs.PutSoFar as bytes-put
+use Rattle.output.proofs.PutSoFar.{PutSoFar, First}
+use Rattle.output.proofs.Parts.{in-two}
+use Rattle.output.proofs.Chunks.{BodyFirst, chunk-is}
+use Rattle.lengths.proofs.Pairs.{pairs-are}
+use Rattle.mesh.proofs.Runs.{surfaces}
+use Rattle.lengths.proofs.RunLengths.{surfaceOf}
+
+-- ---- one run
+
+abbrev pub polsBody : (run vs : List ℕ) → List ℕ
+polsBody run vs = spelt (typeOf (word 0 (entryAt polygonSize 0 run))) ++ joined (map polygonBytes (polygonsOf run vs))
+
+pub pols : (run vs : List ℕ) {t : List ℕ} {at : ℕ} → at + length (chunkBytes 4 "POLS" (polsBody run vs)) ≤ length t
+    → BodyFirst (chunkBytes 4 "POLS" (polsBody run vs)) 0x504F4C53 (polsBody run vs) t at
+unfolding bytes
+pols run vs fits = record { is = chunk-is 4 0x504F4C53 "POLS" (polsBody run vs) refl; fits = fits }
+
+module _ (entries : List ℕ) where
+  pub no-ptag : length entries ≡ 0 → unlessNoBytes "PTAG" "SURF" entries ≡ []
+  no-ptag none = rw (eq-eqb (length entries) 0 none)
+
+  some-ptag : (length entries ≡ 0 → ⊥) → unlessNoBytes "PTAG" "SURF" entries ≡ chunkBytes 4 "PTAG" (spelt "SURF" ++ entries)
+  some-ptag some = rw (ne-eqb (length entries) 0 some)
+
+  pub ptag : {t : List ℕ} {at : ℕ} → (length entries ≡ 0 → ⊥) → at + length (unlessNoBytes "PTAG" "SURF" entries) ≤ length t
+      → BodyFirst (unlessNoBytes "PTAG" "SURF" entries) 0x50544147 (spelt "SURF" ++ entries) t at
+  unfolding bytes
+  ptag some fits = record { is = some-ptag some ∙ chunk-is 4 0x50544147 "PTAG" (spelt "SURF" ++ entries) refl; fits = fits }
+
+-- a run has pairs where some of its polygons have a surface
+pub no-pairs : (i : ℕ) (ss : List ℕ) → all (λ s. eqb s 0) ss ≡ true → length (pairsFrom i ss) ≡ 0
+unfolding pairsFrom
+no-pairs i [] none = refl
+no-pairs i (s ∷ ss) none = rw (all-first (λ s. eqb s 0) s ss none) (no-pairs (suc i) ss (all-rest (λ s. eqb s 0) s ss none))
+
+pub a-pair-there : (i : ℕ) (ss : List ℕ) → all (λ s. eqb s 0) ss ≡ false → length (pairsFrom i ss) ≡ 0 → ⊥
+unfolding all pairsFrom pairBytes
+a-pair-there i [] some none = true≢false some
+a-pair-there i (s ∷ ss) some none = go (eqb s 0) (a-pair-there (suc i) ss) some none
+  where
+    go : (b : Bool) → (all (λ s. eqb s 0) ss ≡ false → length (pairsFrom (suc i) ss) ≡ 0 → ⊥)
+        → (b && all (λ s. eqb s 0) ss) ≡ false → length ((if b then [] else pairBytes (i, s)) ++ pairsFrom (suc i) ss) ≡ 0 → ⊥
+    go true later some none = later some none
+    go false later some none =
+        let tag = bytes 2 (s - 1) in
+        omega (arith, none, length-append (vxBytes i ++ tag) (pairsFrom (suc i) ss), length-append (vxBytes i) tag, length-bytes 2 (s - 1))
+
+by-pairs : (ts : List (ℕ × ℕ)) → chunksBytes (unlessEmpty "PTAG" "SURF" pairBytes ts) ≡ unlessNoBytes "PTAG" "SURF" (joined (map pairBytes ts))
+unfolding unlessEmpty joined
+by-pairs [] = refl
+by-pairs (t ∷ ts) = append-nil (chunkBytes 4 "PTAG" (spelt "SURF" ++ joined (map pairBytes (t ∷ ts)))) ∙ sym (some-ptag (joined (map pairBytes (t ∷ ts))) (some-pairs t ts))
+
+both-chunks : (ps : List Polygon) (p : Polygon) (r : List Polygon) → ps ≡ p ∷ r
+    → chunksBytes (runChunks ps) ≡ chunkBytes 4 "POLS" (spelt (typeOf (p .kind)) ++ joined (map polygonBytes ps)) ++ unlessNoBytes "PTAG" "SURF" (pairsFrom 0 (map surfaceOf ps))
+unfolding runChunks unlessEmpty joined
+both-chunks ps p r are =
+    rw are
+    (joined-map-append encoded (unlessEmpty "POLS" (typeOf (p .kind)) polygonBytes (p ∷ r)) (unlessEmpty "PTAG" "SURF" pairBytes (pairsOf 0 (p ∷ r)))
+    ∙ rw (append-nil (chunkBytes 4 "POLS" (spelt (typeOf (p .kind)) ++ joined (map polygonBytes (p ∷ r)))), by-pairs (pairsOf 0 (p ∷ r)), pairs-are 0 (p ∷ r)))
+
+pub run-chunks-are : (run vs : List ℕ) → polygonSize ≤ length run
+    → chunksBytes (runChunks (polygonsOf run vs)) ≡ joined (chunkBytes 4 "POLS" (polsBody run vs) ∷ unlessNoBytes "PTAG" "SURF" (pairsFrom 0 (column polygonSize 2 run)) ∷ [])
+run-chunks-are run vs some =
+    rw (surfaces run vs) at (both-chunks (polygonsOf run vs) _ _ (polygons-at 0 0 run vs (omega arith))) ∙ in-two (chunkBytes 4 "POLS" (polsBody run vs)) (unlessNoBytes "PTAG" "SURF" (pairsFrom 0 (column polygonSize 2 run)))
+
+-- ---- all runs
+
+abbrev chunksOf : List (List Polygon) → List ℕ
+chunksOf rs = chunksBytes (joined (map runChunks rs))
+
+pub record RunsPut (ws vs t : List ℕ) (at : ℕ) (t′ : List ℕ) (next entry first : ℕ) : Type 0 where
+  pub small : all (λ v. ltb v (2 ^ 24)) vs ≡ true
+  pub walk : RunWalk ws vs (λ rs. PutSoFar (chunksOf (runs (polygonsOf ws vs))) (chunksOf rs) t at t′ next) entry first
+
+pub begin : {ws vs t : List ℕ} {at : ℕ} → Indexed ws vs → at + length (chunksOf (runs (polygonsOf ws vs))) ≤ length t → RunsPut ws vs t at t at 0 0
+begin lent fits = record { small = lent .small; walk = run-walk.begin (lent .lent) (bytes-put.begin fits) }
+
+module _ {ws vs t t′ : List ℕ} {at next entry first : ℕ} (w : RunsPut ws vs t at t′ next entry first) where
+  pub end : length ws - entry < polygonSize → Wrote t at (chunksOf (runs (polygonsOf ws vs))) t′ next
+  unfolding joined
+  end short = bytes-put.end (run-walk.end (w .walk) short) refl
+
+  module _ (fits : polygonSize ≤ length ws - entry) {to : ℕ} (to-is : (to ≡ runEnd ws entry) × (to ≤ length ws))
+      {n : ℕ} (count : n ≡ sum (vertexCounts (take (to - entry) (drop entry ws)))) where
+    abbrev run : List ℕ
+    run = take (to - entry) (drop entry ws)
+
+    abbrev own : List ℕ
+    own = take (first + n - first) (drop first vs)
+
+    abbrev others : List (List Polygon)
+    others = runs (polygonsOf (drop to ws) (drop (first + n) vs))
+
+    one : First (chunksOf (polygonsOf run own ∷ others)) (chunksBytes (runChunks (polygonsOf run own))) (chunksOf others)
+    unfolding joined
+    one = record { is = joined-map-append encoded (runChunks (polygonsOf run own)) _ }
+
+    pub run-room : RunLent run own × (next + length (chunksBytes (runChunks (polygonsOf run own))) ≤ length t′)
+    run-room =
+        let l = run-walk.run-lent (w .walk) fits to-is count in
+        let small = all-part (λ v. ltb v (2 ^ 24)) vs first (first + n - first) (w .small) in
+        (record { indexed = record { lent = l .0; small = small }; some = l .1 }, bytes-put.room (run-walk.here (w .walk) fits to-is count) one)
+
+    pub turn : {t″ : List ℕ} {last : ℕ} → Wrote t′ next (chunksBytes (runChunks (polygonsOf run own))) t″ last → RunsPut ws vs t at t″ last to (first + n)
+    turn v = record { small = w .small; walk = run-walk.turn (w .walk) fits to-is count (bytes-put.turn (run-walk.here (w .walk) fits to-is count) one v) }

@@ -1,0 +1,39 @@
+-- The parts of the chunks of a run as they are put into the output, and the room that they take.
+use Prim.Native.Nat.{ℕ, _+_, _≤_, _^_}
+use Prim.Native.String.{String}
+use mathlib.Core.Path.{_≡_}
+use mathlib.Core.List.{List, [], _++_, map}
+use mathlib.Core.Bool.{true}
+use lib.Dec.{eqb, ltb}
+use lib.ListN.{length}
+use Rattle.format.specs.Bytes.{if_then_else_, spelt, all, sum, joined}
+use Rattle.format.specs.Mesh.{polygonSize}
+use Rattle.format.specs.Canonical.{bytes, vxBytes, chunkBytes, polygonBytes}
+use Rattle.format.specs.Written.{vertexCounts}
+use Rattle.mesh.specs.Lent.{polygonsOf}
+use Rattle.mesh.specs.Polygons.{PolygonsLent}
+use Rattle.output.specs.Outputs.{total}
+
+-- a chunk that is left out where its entries have no bytes
+abbrev pub unlessNoBytes : (tag type : String) → List ℕ → List ℕ
+unlessNoBytes tag type entries = if eqb (length entries) 0 then [] else chunkBytes 4 tag (spelt type ++ entries)
+
+-- a polygon of a POLS: its vertex count and its vertices
+abbrev pub verticesBytes : List ℕ → List ℕ
+verticesBytes vs = bytes 2 (length vs) ++ joined (map vxBytes vs)
+
+-- polygons with their vertices, whose indices have 24 bits
+pub record Indexed (polygons vertices : List ℕ) : Type 0 where
+  pub lent : PolygonsLent polygons vertices
+  pub small : all (λ v. ltb v (2 ^ 24)) vertices ≡ true
+
+-- one run of them, which is not empty
+pub record RunLent (run vertices : List ℕ) : Type 0 where
+  pub indexed : Indexed run vertices
+  pub some : polygonSize ≤ length run
+
+-- polygons with their vertices, whose indices have 24 bits, and room for what they are written as
+pub record PolygonsRoom (out : List ℕ) (at : ℕ) (polygons vertices : List ℕ) : Type 0 where
+  pub agree : sum (vertexCounts polygons) ≡ length vertices
+  pub small : all (λ v. ltb v (2 ^ 24)) vertices ≡ true
+  pub room : at + total polygonBytes (polygonsOf polygons vertices) ≤ length out

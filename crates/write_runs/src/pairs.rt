@@ -1,0 +1,56 @@
+// The pairs of a PTAG chunk put into the output.
+ghost use mathlib.Core.Path.{_≡_};
+ghost use Prim.Native.Nat.{_+_, _*_, _≤_, _<_, _^_};
+ghost use lib.Dec.{eqb};
+ghost use lib.ListN.{length};
+ghost use Rattle.format.specs.Bytes.{all};
+ghost use Rattle.format.specs.Limits.{entryLimit};
+ghost use Rattle.format.specs.Mesh.{polygonSize};
+ghost use Rattle.mesh.specs.Lent.{column};
+ghost use Rattle.output.specs.Outputs.{Wrote};
+ghost use Rattle.lengths.specs.Sizes.{pairOf, pairsFrom};
+use format::POLYGON_WORDS;
+use mesh::polygons::surface;
+use output::items::put_u2;
+use output::items::put_vx;
+
+// The pair of polygon i, or nothing where it has no surface. Tags count from 0.
+fn put_pair(out: &mut [u8], at: usize, i: u32, surface: u32) -> usize
+    requires { ⌜ (i < 2 ^ 24) × (at + length (pairOf i surface) ≤ length (now out)) ⌝ }
+    ensures { λ r. ⌜ Wrote (now (out .entry)) at (pairOf i surface) (now (out .exit)) r ⌝ }
+{
+    if surface == 0 {
+        return at;
+    }
+    let next = put_vx(out, at, i);
+    put_u2(out, next, surface - 1)
+}
+
+// Whether no polygon of a run has a surface.
+pub fn no_surfaces(run: &[u32]) -> bool
+    ensures { λ r. ⌜ r ≡ all (λ s. eqb s 0) (column polygonSize 2 (now (run .entry))) ⌝ }
+{
+    let mut at = 0;
+    while POLYGON_WORDS <= run.len() - at {
+        if surface(run, at) != 0 {
+            return false;
+        }
+        at += POLYGON_WORDS;
+    }
+    true
+}
+
+pub fn put_pairs(out: &mut [u8], at: usize, run: &[u32]) -> usize
+    requires { ⌜ (length (now run) ≤ polygonSize * entryLimit) × (at + length (pairsFrom 0 (column polygonSize 2 (now run))) ≤ length (now out)) ⌝ }
+    ensures { λ r. ⌜ Wrote (now (out .entry)) at (pairsFrom 0 (column polygonSize 2 (now (run .entry)))) (now (out .exit)) r ⌝ }
+{
+    let mut next = at;
+    let mut i = 0;
+    let mut entry = 0;
+    while POLYGON_WORDS <= run.len() - entry {
+        next = put_pair(out, next, i, surface(run, entry));
+        i += 1;
+        entry += POLYGON_WORDS;
+    }
+    next
+}
