@@ -20,7 +20,7 @@ use Rattle.format.specs.Bodies.{Part}
 use Rattle.format.specs.Mesh.{Mesh}
 use Rattle.format.specs.Rules.{Before, start, after, judge, located, PartAt, walk, form, partsOf, gives, rules}
 use Rattle.format.specs.Contracts.{walkParts}
-use Rattle.format.proofs.Verdicts.{known, passed}
+use Rattle.format.proofs.Verdicts.{fine-with, passed}
 use Rattle.format.proofs.ChunkWalk.{accepted}
 use Rattle.format.proofs.Tiling as tiling
 use Rattle.format.proofs.Facts.{every-at}
@@ -167,6 +167,6 @@ pub last : {file : List ℕ} {m : Mesh} {k d : ℕ} → rules file ≡ gives m k
 unfolding walkParts
 last {file} e =
     let a = accepted e in
-    let k = known (walk (a .kind) start 12 (chunks (drop 12 file))) partsOf (sym (a .walked)) in
+    let k = fine-with (walk (a .kind) start 12 (chunks (drop 12 file))) partsOf (sym (a .walked)) in
     let ends : Walked (a .kind) file (fine (k .value)) = rw (k .is) at (walked-file file (a .kind) (a .formed)) in
     ends

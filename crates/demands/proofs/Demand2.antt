@@ -17,7 +17,7 @@ use Rattle.format.specs.Rules.{Outcome, refused, gives, rules}
 use Rattle.format.specs.Answer.{Answer, answer, fits, over, filled, tablesAfter, Reads}
 use Rattle.format.specs.Canonical.{canonical}
 use Rattle.format.specs.Written.{goodMesh, meshFrom, isMesh, Written, says, written, outputAfter, Writes}
-use Rattle.format.proofs.Facts.{length-entries, length-joined, length-joined-map}
+use Rattle.format.proofs.Facts.{length-each, length-joined, length-joined-map}
 use Rattle.format.proofs.ChunkWalk.{within-limit}
 use Rattle.format.proofs.ChunkWalk.{accepted as accepted-file}
 use Rattle.laws.proofs.Accepted.{accepted-good}
@@ -106,12 +106,12 @@ just new old e = rw (drop-of-length-le old {i = length new} (omega arith), appen
 just-filled : (m : Mesh) (t : Tables) → length (m .surfaces) ≡ length (m .names) → JustFits (needs m) t → filled (tables m) t ≡ tables m
 unfolding filled tables needs
 just-filled m t as-many h = λ i. record {
-  points = just (joined (map pointWords (m .points))) (t .points) (h .points ∙ sym (length-entries pointSize pointWords (λ p. refl) (m .points))) i;
-  polygons = just (joined (map polygonWords (m .polygons))) (t .polygons) (h .polygons ∙ sym (length-entries polygonSize polygonWords (λ p. refl) (m .polygons))) i;
+  points = just (joined (map pointWords (m .points))) (t .points) (h .points ∙ sym (length-each pointSize pointWords (λ p. refl) (m .points))) i;
+  polygons = just (joined (map polygonWords (m .polygons))) (t .polygons) (h .polygons ∙ sym (length-each polygonSize polygonWords (λ p. refl) (m .polygons))) i;
   vertices = just (joined (map (λ p. p .vertices) (m .polygons))) (t .vertices) (h .vertices ∙ length-joined-map (λ p. p .vertices) (m .polygons)) i;
   names = just (map length (m .names)) (t .names) (h .names ∙ sym (length-map (m .names) length)) i;
   nameBytes = just (joined (m .names)) (t .nameBytes) (h .nameBytes ∙ length-joined (m .names)) i;
-  records = just (joined (map surfaceWords (m .surfaces))) (t .records) (h .records ∙ ap (λ n. n * recordSize) (sym as-many) ∙ sym (length-entries recordSize surfaceWords (λ s. refl) (m .surfaces))) i;
+  records = just (joined (map surfaceWords (m .surfaces))) (t .records) (h .records ∙ ap (λ n. n * recordSize) (sym as-many) ∙ sym (length-each recordSize surfaceWords (λ s. refl) (m .surfaces))) i;
 }
 
 -- no table of a mesh that was read has more entries than the file has bytes

@@ -17,7 +17,7 @@ use Rattle.format.specs.Limits.{fileLimit, lwo2VertexLimit}
 use Rattle.format.specs.Refusals.{numberOf}
 use Rattle.format.specs.Items.{Verdict, fine, fault, _andThen_}
 use Rattle.format.specs.Chunks.{sizeOf, Chunks, finished, broken, chunk}
-use Rattle.format.specs.Mesh.{polygonOf, Polygon, FACE, PATCH, Tables}
+use Rattle.format.specs.Mesh.{polygonOf, Polygon, FACE, PATCH, Tables, pointSize, polygonSize, recordSize}
 use Rattle.format.specs.Bodies.{Part, wholePoints}
 use Rattle.format.specs.Rules.{Before, start, after, judge, located, PartAt, walk, kindOf, form, judged, outcome, refused, rules}
 use Rattle.format.specs.Canonical.{bytes, vxBytes, canonical}
@@ -109,20 +109,20 @@ few size ws e = leb-true _ _ (and-eq-true-iff (eqb (length ws % size) 0) _ .0 e 
 
 -- each of the six tables is judged so
 pub mesh-entries : (t : Tables) → isMesh t ≡ true
-    → (length (t .points) / 3 ≤ 16777216)
-    × (length (t .polygons) / 3 ≤ 16777216)
+    → (length (t .points) / pointSize ≤ 16777216)
+    × (length (t .polygons) / polygonSize ≤ 16777216)
     × (length (t .vertices) ≤ 16777216)
     × (length (t .names) ≤ 16777216)
     × (length (t .nameBytes) ≤ 16777216)
-    × (length (t .records) / 10 ≤ 16777216)
+    × (length (t .records) / recordSize ≤ 16777216)
 unfolding isMesh
 mesh-entries t e = (
-  few 3 (t .points) (every-at _ 0 e),
-  few 3 (t .polygons) (every-at _ 1 e),
+  few pointSize (t .points) (every-at _ 0 e),
+  few polygonSize (t .polygons) (every-at _ 1 e),
   omega (arith, few 1 (t .vertices) (every-at _ 2 e)),
   omega (arith, few 1 (t .names) (every-at _ 3 e)),
   omega (arith, few 1 (t .nameBytes) (every-at _ 4 e)),
-  few 10 (t .records) (every-at _ 5 e),
+  few recordSize (t .records) (every-at _ 5 e),
 )
 
 -- ---- 17: "a surface above the name count or 65,536"

@@ -1,5 +1,5 @@
 -- Facts about tests and about joined lists.
-use Prim.Native.Nat.{ℕ, zero, suc, _*_, _/_, _%_, _^_, _≤_, _<_}
+use Prim.Native.Nat.{ℕ, zero, suc, _+_, _*_, _/_, _%_, _^_, _≤_, _<_}
 use mathlib.Core.Path.{_≡_, refl, sym, ap, _∙_}
 use mathlib.Core.List.{List, [], _∷_, _++_, map, map-append}
 use mathlib.Core.Bool.{Bool, true, false, not, _&&_, false≢true, and-eq-true-iff}
@@ -10,6 +10,10 @@ use lib.ListN.{length, take, drop, getD, length-append, take-append-drop}
 use borrow.Author.Tests.{leb-true, ltb-true, lt-ltb, eqb-false, not-true}
 use Rattle.format.specs.Bytes.{byte, between, finite, every, all, sum, joined}
 use Rattle.format.proofs.Puts.{joined-append}
+
+-- two tests that pass
+pub both : {a b : Bool} → a ≡ true → b ≡ true → a && b ≡ true
+both p q = rw (p, q)
 
 -- from two constructors that are told to be equal, `cc` proves this equation, and anything follows from it
 pub impossible : {P : Type 0} → _≡_ {A = ℕ} 0 1 → P
@@ -81,12 +85,22 @@ finite-bits bits e =
     let both = and-eq-true-iff (ltb bits (2 ^ 32)) (not (eqb (bits / 2 ^ 23 % 256) 255)) .0 e in
     (ltb-true bits (2 ^ 32) (both .0), eqb-false _ _ (not-true _ (both .1)))
 
+-- ---- sums
+
+pub sum-append : (xs ys : List ℕ) → sum (xs ++ ys) ≡ sum xs + sum ys
+unfolding sum
+sum-append [] ys = omega arith
+sum-append (x ∷ xs) ys = omega (arith, sum-append xs ys)
+
+pub sum-map-append : {A : Type 0} (f : A → ℕ) (xs ys : List A) → sum (map f (xs ++ ys)) ≡ sum (map f xs) + sum (map f ys)
+sum-map-append f xs ys = ap sum (map-append f xs ys) ∙ sum-append (map f xs) (map f ys)
+
 -- ---- joined lists
 
-pub length-entries : {A : Type 0} (n : ℕ) (f : A → List ℕ) → ((x : A) → length (f x) ≡ n) → (xs : List A) → length (joined (map f xs)) ≡ length xs * n
+pub length-each : {A : Type 0} (n : ℕ) (f : A → List ℕ) → ((x : A) → length (f x) ≡ n) → (xs : List A) → length (joined (map f xs)) ≡ length xs * n
 unfolding joined
-length-entries n f long [] = omega arith
-length-entries n f long (x ∷ xs) = length-append (f x) (joined (map f xs)) ∙ omega (arith, long x, length-entries n f long xs)
+length-each n f long [] = omega arith
+length-each n f long (x ∷ xs) = length-append (f x) (joined (map f xs)) ∙ omega (arith, long x, length-each n f long xs)
 
 -- joined lists are as long as they are together
 pub length-joined : {A : Type 0} (xss : List (List A)) → sum (map length xss) ≡ length (joined xss)

@@ -1,11 +1,11 @@
 -- A list that is walked by an index, and pieces whose lengths are walked so.
-use Prim.Native.Nat.{ℕ, _+_, _-_, _<_, _≤_}
+use Prim.Native.Nat.{ℕ, zero, suc, _+_, _-_, _<_, _≤_}
 use mathlib.Core.Path.{_≡_, refl, sym, ap, _∙_}
 use mathlib.Core.List.{List, [], _∷_, _++_, map, append-assoc, append-nil}
 use native.Mathlib.Numerals.{add-one}
 use native.Mathlib.Omega.{arith}
-use lib.ListN.{length, getD, take, drop, drop-of-length-le}
-use lib.Seq.{take-at, drop-at, drop-cons, drop-drop}
+use lib.ListN.{length, getD, take, drop, drop-of-length-le, length-drop}
+use lib.Seq.{take-at, drop-at, drop-cons, drop-drop, length-take-le}
 use Rattle.format.specs.Bytes.{joined, sum}
 use Rattle.format.specs.Written.{pieces}
 
@@ -23,7 +23,28 @@ pub sum-index : (i : ℕ) (ns : List ℕ) → i < length ns → sum (drop i ns) 
 unfolding sum
 sum-index i ns inside = rw (at-index ns i inside)
 
+-- a list without elements
+pub no-elements : {A : Type 0} (xs : List A) → 0 ≡ length xs → xs ≡ []
+no-elements [] e = refl
+no-elements (x ∷ xs) e = absurd (omega arith)
+
+-- n elements of a list, one by one from the k-th on
+unfoldable pub elements : (k n : ℕ) → List ℕ → List ℕ
+elements k zero xs = []
+elements k (suc n) xs = getD xs k 0 ∷ elements (suc k) n xs
+
+pub elements-are : (k n : ℕ) (xs : List ℕ) → k + n ≤ length xs → elements k n xs ≡ take n (drop k xs)
+unfolding elements
+elements-are k zero xs fits = refl
+elements-are k (suc n) xs fits = rw (elements-are (suc k) n xs (omega arith), drop-cons xs k 0 (omega arith))
+
 -- ---- pieces
+
+-- pieces are as long as they were told to be
+pub pieces-lengths : {A : Type 0} (ns : List ℕ) (xs : List A) → sum ns ≡ length xs → map length (pieces ns xs) ≡ ns
+unfolding pieces sum
+pieces-lengths [] xs agree = refl
+pieces-lengths (n ∷ ns) xs agree = rw (length-take-le n xs (omega arith), pieces-lengths ns (drop n xs) (omega (arith, length-drop n xs)))
 
 pub pieces-at : {A : Type 0} (i at : ℕ) (ns : List ℕ) (xs : List A) → i < length ns
     → pieces (drop i ns) (drop at xs) ≡ take (getD ns i 0) (drop at xs) ∷ pieces (drop (i + 1) ns) (drop (at + getD ns i 0) xs)

@@ -15,6 +15,7 @@ pub mod Indexed
 pub mod SameLists
 pub mod Bounds
 pub mod Tagging
+pub mod PolygonTables
 pub mod CanonicalLengths
 pub mod PartByTag
 pub mod OneNameList

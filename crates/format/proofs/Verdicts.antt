@@ -27,16 +27,16 @@ passed false v why at e = (refl, e)
 
 -- ---- of which a part is kept
 
--- what was judged, of which f is known
-pub record Known {A B : Type 0} (v : Verdict A) (f : A → B) (y : B) : Type 0 where
+-- a verdict that is fine with a value, of which f is told
+pub record FineWith {A B : Type 0} (v : Verdict A) (f : A → B) (y : B) : Type 0 where
   pub value : A
   pub is : v ≡ fine value
   pub shows : f value ≡ y
 
-pub known : {A B : Type 0} (v : Verdict A) (f : A → B) {y : B} → fine y ≡ (v andThen λ x. fine (f x)) → Known v f y
+pub fine-with : {A B : Type 0} (v : Verdict A) (f : A → B) {y : B} → fine y ≡ (v andThen λ x. fine (f x)) → FineWith v f y
 unfolding _andThen_
-known (fine x) f e = record { value = x; is = refl; shows = cc }
-known (fault why p) f e = impossible cc
+fine-with (fine x) f e = record { value = x; is = refl; shows = cc }
+fine-with (fault why p) f e = impossible cc
 
 pub stopped : {A B : Type 0} (v : Verdict A) (f : A → B) {why : Fault} {at : ℕ} → fault why at ≡ (v andThen λ x. fine (f x)) → v ≡ fault why at
 unfolding _andThen_

@@ -28,10 +28,12 @@ abbrev pub spelt : String → List ℕ
 spelt Str.[] = []
 spelt (Str._∷_ c s) = code c ∷ spelt s
 
+abbrev pub tagNumber : String → ℕ
+tagNumber s = number (spelt s)
+
 infix 50 _is_
 abbrev pub _is_ : ℕ → String → Bool
-unfolding number
-t is s = eqb t (number (spelt s))
+t is s = eqb t (tagNumber s)
 
 abbrev pub between : ℕ → ℕ → ℕ → Bool
 between least most n = leb least n && leb n most

@@ -1,15 +1,15 @@
 -- How a contract cites the specification: what a reader says at a place of a slice, what a whole body is judged to be, what a table holds after words were
--- put into it, and what the parts of a file are. The slice is a chunk's bytes from its tag on, so that an index of it is a place.
+-- put into it, what polygons are in the tables, and what the parts of a file are. The slice is a chunk's bytes from its tag on, so that an index of it is a place.
 use Prim.Native.Nat.{ℕ, _+_, _*_, _≤_}
 use mathlib.Core.Path.{_≡_}
-use mathlib.Core.List.{List, _++_, map}
+use mathlib.Core.List.{List, [], _++_, map}
 use lib.ListN.{length, take, drop}
 use Rattle.format.specs.declared.Kind.{Kind}
-use Rattle.format.specs.Items.{Verdict, fine, fault, _andThen_, Got, Reader, give, whole}
-use Rattle.format.specs.Bytes.{joined}
+use Rattle.format.specs.Bytes.{tagNumber, sum, joined}
+use Rattle.format.specs.Items.{Verdict, fine, fault, _andThen_, Got, Reader, _>>=_, give, many, whole}
 use Rattle.format.specs.Chunks.{Chunks, chunks}
-use Rattle.format.specs.Mesh.{Name}
-use Rattle.format.specs.Bodies.{Part}
+use Rattle.format.specs.Mesh.{Polygon, polygonWords, Name}
+use Rattle.format.specs.Bodies.{Part, pointList, nameList, polygonList, tagging, surface, skippedChunk, pair}
 use Rattle.format.specs.Rules.{Before, start, walk, partsOf, namesOf}
 
 -- ---- readers
@@ -66,6 +66,19 @@ pub record JudgedAt {A B : Type 0} (header start : ℕ) (r : Reader A) (h : A �
 abbrev pub Judged : {A B : Type 0} → Reader A → (A → B) → List ℕ → Verdict B → Type 0
 Judged r h s answer = JudgedAt 0 8 r h s answer
 
+-- the pairs of a PTAG of surfaces, which follow its type
+abbrev pub taggingPairs : (polygonCount nameCount : ℕ) → Reader Part
+taggingPairs polygonCount nameCount = many (pair polygonCount nameCount) >>= (λ ps. give (tagging (tagNumber "SURF") ps))
+
+-- the polygons that a part lists; their vertices count from the first of the latest points
+unfoldable pub polygonsListed : Part → List Polygon
+polygonsListed (pointList ps) = []
+polygonsListed (nameList ns) = []
+polygonsListed (polygonList ps n) = ps
+polygonsListed (tagging t ts) = []
+polygonsListed (surface s) = []
+polygonsListed skippedChunk = []
+
 -- a verdict that is fine
 pub record Succeeds {A : Type 0} (v : Verdict A) : Type 0 where
   pub value : A
@@ -76,6 +89,22 @@ pub record Succeeds {A : Type 0} (v : Verdict A) : Type 0 where
 -- the words ws stand in the table from the index m on, and the rest of it is unchanged
 pub record Put (table : List ℕ) (m : ℕ) (ws table′ : List ℕ) : Type 0 where
   pub put : table′ ≡ take m table ++ ws ++ drop (m + length ws) table
+
+-- polygons as the tables of polygons and of vertices hold them, and how many vertices they have
+abbrev pub polygonsWords : List Polygon → List ℕ
+polygonsWords ps = joined (map polygonWords ps)
+
+abbrev pub polygonsVertices : List Polygon → List ℕ
+polygonsVertices ps = joined (map (λ p. p .vertices) ps)
+
+abbrev pub vertexTotal : List Polygon → ℕ
+vertexTotal ps = sum (map (λ p. length (p .vertices)) ps)
+
+-- ---- bytes
+
+-- how many bytes some elements are written as
+abbrev pub total : {A B : Type 0} → (A → List B) → List A → ℕ
+total f xs = length (joined (map f xs))
 
 -- ---- files
 

@@ -8,7 +8,7 @@ use lib.ListN.{length}
 use lib.IntN.{ℤ}
 use lib.Dec.{leb}
 use Rattle.format.specs.declared.Kind.the-variants.{LWOB}
-use Rattle.format.specs.Bytes.{if_then_else_, absolute, negative, spelt, number, finite, over255, over256, every, all, sum, joined, same, amongst}
+use Rattle.format.specs.Bytes.{if_then_else_, absolute, negative, spelt, number, tagNumber, finite, over255, over256, every, all, sum, joined, same, amongst}
 use Rattle.format.specs.Refusals.{numberOf}
 use Rattle.format.specs.Items.{Verdict, fine, fault, Got, _andThen_, _>>=_, _or_unless_, whole, times, upTo, many, item, uint, i2, float, vx, toZero, string}
 use Rattle.format.specs.Chunks.{sizeOf, lengthOf, wellFormed, chunkOf, ofLength, link, split, chunks, sub, unjudged}
@@ -51,7 +51,7 @@ run : Input → Result
 run (file s) = file-gives (rules s)
 run (vx-item s) = result item-gives (vx 0 s)
 run (surface-item s) = result (λ z size. surface-gives (absolute z) (negative z)) (i2 0 s)
-run (lumi-body s) = result (λ vs size. level-gives (recordOf LWOB vs .luminosity)) (lwobValue (number (spelt "LUMI")) 0 s)
+run (lumi-body s) = result (λ vs size. level-gives (recordOf LWOB vs .luminosity)) (lwobValue (tagNumber "LUMI") 0 s)
 run (name-item s) = result (λ n size. item-gives (length n) size) (string 0 s)
 run (mesh m) = written-as (canonical m)
 

@@ -11,7 +11,7 @@ use Rattle.format.specs.Limits.{lwo2VertexLimit}
 use Rattle.format.specs.Mesh.{polygonOf, Polygon, FACE, PATCH, word, polygonSize, polygonFrom}
 use Rattle.format.specs.Written.{pieces, entries, polygonsFrom, vertexCounts, goodPolygon}
 use Rattle.mesh.specs.declared.polygons.Polygon as view
-use Rattle.mesh.specs.Lent.{polygonsOf}
+use Rattle.mesh.specs.Lent.{meshPolygons}
 use Rattle.mesh.specs.Polygons.{polygonAt}
 use Rattle.mesh.proofs.PolygonWalk.{PolygonWalk, own-length}
 use Rattle.good_mesh.specs.Tests.{goodEntry}
@@ -59,14 +59,14 @@ module _ (points names : ℕ) where
       (middle-two (below (take n vs)) (goodWords names p) (below (drop n vs)) (all (goodWords names) others))
 
   module _ (ws vs : List ℕ) (agree : sum (vertexCounts ws) ≡ length vs) {b : Bool} (is : b ≡ below vs) where
-    so : all (goodPolygon points names) (polygonsOf ws vs) ≡ (b && all (goodWords names) (polygonsOf ws vs))
-    unfolding polygonsOf
+    so : all (goodPolygon points names) (meshPolygons ws vs) ≡ (b && all (goodWords names) (meshPolygons ws vs))
+    unfolding meshPolygons
     so = rw is (apart (entries polygonSize ws) vs agree)
 
-    pub not-below : b ≡ false → false ≡ all (goodPolygon points names) (polygonsOf ws vs)
+    pub not-below : b ≡ false → false ≡ all (goodPolygon points names) (meshPolygons ws vs)
     not-below f = sym (rw f at so)
 
-    pub by-words : b ≡ true → all (goodWords names) (polygonsOf ws vs) ≡ all (goodPolygon points names) (polygonsOf ws vs)
+    pub by-words : b ≡ true → all (goodWords names) (meshPolygons ws vs) ≡ all (goodPolygon points names) (meshPolygons ws vs)
     by-words t = sym (rw t at so)
 
 -- ---- the answer for an entry is that for its polygon

@@ -12,7 +12,7 @@ use Rattle.format.specs.Limits.{entryLimit}
 use Rattle.format.specs.Mesh.{pointWords, pointFrom, pointSize, polygonSize, recordSize, surfaceFrom, Tables, lent}
 use Rattle.format.specs.Written.{entries, pieces, vertexCounts, meshFrom, wholeEntries, goodPolygon, goodNames, goodSurface, goodMesh, isMesh}
 use Rattle.format.proofs.Facts.{every-at}
-use Rattle.mesh.specs.Lent.{column, polygonsOf, surfacesOf}
+use Rattle.mesh.specs.Lent.{column, meshPolygons, meshSurfaces}
 use Rattle.good_mesh.specs.Tests.{wholeTables, countsAgree}
 use Rattle.mesh.proofs.AllPass.{passed, failed}
 use Rattle.mesh.proofs.MeshFacts.{limits}
@@ -91,10 +91,10 @@ module _ (points polygons vertices names nameBytes records : List ℕ) where
   finitePoints = all finite points
 
   abbrev goodPolygons : Bool
-  goodPolygons = all (goodPolygon (length points / pointSize) (length names)) (polygonsOf polygons vertices)
+  goodPolygons = all (goodPolygon (length points / pointSize) (length names)) (meshPolygons polygons vertices)
 
   abbrev goodRecords : Bool
-  goodRecords = all goodSurface (surfacesOf records)
+  goodRecords = all goodSurface (meshSurfaces records)
 
   abbrev namesPass : Bool
   namesPass = goodNames [] (pieces names nameBytes)
@@ -104,7 +104,7 @@ module _ (points polygons vertices names nameBytes records : List ℕ) where
   split = every-append (wholeEntries pointSize points ∷ wholeEntries polygonSize polygons ∷ wholeEntries 1 vertices ∷ wholeEntries 1 names ∷ wholeEntries 1 nameBytes ∷ wholeEntries recordSize records ∷ []) _
 
   decided : wholeTables t ≡ true → isMesh t ≡ (agreeing && (finitePoints && (goodPolygons && (goodRecords && namesPass))))
-  unfolding countsAgree goodMesh meshFrom polygonsOf surfacesOf every
+  unfolding countsAgree goodMesh meshFrom meshPolygons meshSurfaces every
   decided ok =
       split
       ∙ rw (ok, length-map (entries pointSize points) pointFrom, length-map (entries recordSize records) surfaceFrom, length-entries pointSize points, length-entries recordSize records, length-pieces names nameBytes, finite-points points (whole-points ok))

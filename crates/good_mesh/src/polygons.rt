@@ -4,7 +4,7 @@ ghost use lib.Dec.{ltb};
 ghost use lib.ListN.{length};
 ghost use Rattle.format.specs.Bytes.{all, sum};
 ghost use Rattle.format.specs.Written.{goodPolygon, vertexCounts};
-ghost use Rattle.mesh.specs.Lent.{polygonsOf};
+ghost use Rattle.mesh.specs.Lent.{meshPolygons};
 ghost use Rattle.good_mesh.specs.Tests.{goodEntry};
 use format::POLYGON_WORDS;
 use mesh::polygons::polygon_at;
@@ -36,7 +36,7 @@ fn good_entry(kind: u32, count: usize, surface: u32, names: usize) -> bool
 // All vertices are tested at once, before the entries, since a test of a few at a time costs more.
 pub fn good_polygons(polygons: &[u32], vertices: &[u32], points: usize, names: usize) -> bool
     requires { ⌜ sum (vertexCounts (now polygons)) ≡ length (now vertices) ⌝ }
-    ensures { λ r. ⌜ r ≡ all (goodPolygon points names) (polygonsOf (now (polygons .entry)) (now (vertices .entry))) ⌝ }
+    ensures { λ r. ⌜ r ≡ all (goodPolygon points names) (meshPolygons (now (polygons .entry)) (now (vertices .entry))) ⌝ }
 {
     if !all_below(vertices, points) {
         return false;

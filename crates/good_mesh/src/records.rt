@@ -4,7 +4,7 @@ ghost use lib.ListN.{length};
 ghost use Rattle.format.specs.Bytes.{all, same};
 ghost use Rattle.format.specs.Mesh.{recordSize, surfaceFrom, surfaceWords, missing};
 ghost use Rattle.format.specs.Written.{goodSurface};
-ghost use Rattle.mesh.specs.Lent.{surfacesOf};
+ghost use Rattle.mesh.specs.Lent.{meshSurfaces};
 use crate::floats::all_finite;
 use format::RECORD_WORDS;
 use words::same_words;
@@ -35,7 +35,7 @@ fn good_record(words: &[u32]) -> bool
 }
 
 pub fn good_records(records: &[u32]) -> bool
-    ensures { λ r. ⌜ r ≡ all goodSurface (surfacesOf (now (records .entry))) ⌝ }
+    ensures { λ r. ⌜ r ≡ all goodSurface (meshSurfaces (now (records .entry))) ⌝ }
 {
     let mut at = 0;
     while RECORD_WORDS <= records.len() - at {

@@ -21,15 +21,12 @@ use Rattle.format.specs.Surfaces.{Value, sideNumber, levelTag, floatLevel, last
 use Rattle.format.specs.Bodies.{Part, SurfaceChunk, pointList, nameList, polygonList, tagging, surface, skippedChunk}
 use Rattle.format.specs.Rules.{added, Before, start, after, there, count, pointsOf, namesOf, surfacesOf, standing, recordFor, from, withTag, retag, tagged, polygonsIn, meshOf, gives, rules}
 use Rattle.format.specs.Written.{goodPolygon, goodNames, goodSurface, goodMesh}
-use Rattle.format.proofs.Facts.{impossible, every-at, all-first, all-rest, all-append-true, all-drop, all-part, between-true}
+use Rattle.format.proofs.Facts.{both, impossible, every-at, all-first, all-rest, all-append-true, all-drop, all-part, between-true}
 use Rattle.format.proofs.Verdicts.{same-fine}
 use Rattle.format.specs.Contracts.{walkParts}
 use Rattle.format.proofs.ChunkWalk.{parts-finished, parts-broken, next, accepted}
 use Rattle.laws.proofs.GoodPolygons.{GoodPolygon, good-polygon, is-good}
 use Rattle.laws.proofs.Readers.{goodValue, goodPart, part-good}
-
-both : {a b : Bool} → a ≡ true → b ≡ true → a && b ≡ true
-both p q = rw (p, q)
 
 -- ---- chunks of bytes
 

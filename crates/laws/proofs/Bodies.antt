@@ -20,9 +20,9 @@ use Rattle.format.specs.Surfaces.{Value, value, sideNumber, lwo2Value, held, ne
 use Rattle.format.specs.Bodies.{Part, SurfaceChunk, pointList, nameList, polygonList, tagging, surface, point, wholePoints, pointsBody, newName, name, namesAfter, namesBody, vertex, countBits, lwo2Vertices, polygon, polygonType, polygonKind, polygonsBody, pair, taggingBody, surfaceStrings, surfaceBody}
 use Rattle.format.specs.Canonical.{bytes, vxBytes, stringBytes, chunkBytes, pointBytes, polygonBytes, typeOf, pairsOf, pairBytes, levelBytes, surfaceBytes}
 use Rattle.format.specs.Written.{goodPolygon, noZero, goodNames}
-use Rattle.format.proofs.Facts.{every-at, all-first, all-rest, all-part, between-true, length-entries}
+use Rattle.format.proofs.Facts.{every-at, all-first, all-rest, all-part, between-true, length-each}
 use Rattle.laws.proofs.Reading.{Reads, Ends, ends, reads-give, reads-then, ends-then, reads-as, ends-as, reads-unless, Row, none, more, reads-times, ends-many, rows, rows-same}
-use Rattle.format.proofs.CanonicalLengths.{length-bytes, length-point, length-vx}
+use Rattle.format.proofs.CanonicalLengths.{length-bytes, length-string, length-point, length-vx}
 use Rattle.laws.proofs.Items.{reads-item, reads-uint, floats, reads-floats, reads-vx, reads-string}
 use Rattle.laws.proofs.GoodPolygons.{GoodPolygon, good-polygon}
 use Rattle.laws.proofs.Chunks.{isTag, more-sub, ends-of-length}
@@ -40,7 +40,7 @@ reads-point p ok = rw append-nil at (reads-floats (λ ws. give (pointFrom ws)) (
 pub ends-points : (ps : List Point) → all goodPoint ps ≡ true → Ends (pointsBody LWO2) (joined (map pointBytes ps)) (pointList ps)
 unfolding pointsBody wholePoints
 ends-points ps ok =
-    ends-of-length 4 (wholePoints LWO2) (eq-eqb (length (joined (map pointBytes ps)) % 12) 0 (omega (arith, length-entries 12 pointBytes length-point ps)))
+    ends-of-length 4 (wholePoints LWO2) (eq-eqb (length (joined (map pointBytes ps)) % 12) 0 (omega (arith, length-each 12 pointBytes length-point ps)))
     (ends-as pointList (ends-many (rows-same pointBytes goodPoint reads-point (λ p. omega (arith, length-point p)) ps ok)))
 
 -- ---- names
@@ -61,12 +61,8 @@ reads-name : (earlier : List Name) (n : Name) (ns : List Name) → GoodName earl
 unfolding name
 reads-name earlier n ns g = record { here = reads-unless BadName (newName earlier) (reads-string n (g .no-zero)) (g .new) .here }
 
-pub length-string : (n : Name) → length n < length (stringBytes n)
-unfolding stringBytes
-length-string n =
-    let zeros : ℕ = stringSize (length n) - length n in
-    let long : length (replicate {A = ℕ} zeros 0) ≡ zeros = length-replicate zeros 0 in
-    omega (arith, length-append n (replicate zeros 0))
+pub string-longer : (n : Name) → length n < length (stringBytes n)
+string-longer n = omega (arith, length-string n)
 
 names-step : {w v : List ℕ} {n : Name} {ns : List Name} (k : ℕ) (earlier : List Name) → Reads (name earlier) w n → 0 < length w → Ends (namesAfter k (earlier ++ (n ∷ []))) v ns
     → Ends (namesAfter (suc k) earlier) (w ++ v) (n ∷ ns)
@@ -79,11 +75,11 @@ ends-names-after : (k : ℕ) (earlier ns : List Name) → goodNames earlier ns �
 unfolding namesAfter joined
 ends-names-after zero earlier [] ok fits = ends reads-give
 ends-names-after (suc k) earlier [] ok fits = record { here = ends reads-give .here }
-ends-names-after zero earlier (n ∷ ns) ok fits = absurd (omega (arith, length-append (stringBytes n) (joined (map stringBytes ns)), length-string n))
+ends-names-after zero earlier (n ∷ ns) ok fits = absurd (omega (arith, length-append (stringBytes n) (joined (map stringBytes ns)), string-longer n))
 ends-names-after (suc k) earlier (n ∷ ns) ok fits =
     let g = good-name earlier n ns ok in
-    let less : length (joined (map stringBytes ns)) ≤ k = omega (arith, length-append (stringBytes n) (joined (map stringBytes ns)), length-string n) in
-    names-step k earlier (reads-name earlier n ns g) (omega (arith, length-string n)) (ends-names-after k (earlier ++ (n ∷ [])) ns (g .rest) less)
+    let less : length (joined (map stringBytes ns)) ≤ k = omega (arith, length-append (stringBytes n) (joined (map stringBytes ns)), string-longer n) in
+    names-step k earlier (reads-name earlier n ns g) (omega (arith, string-longer n)) (ends-names-after k (earlier ++ (n ∷ [])) ns (g .rest) less)
 
 pub ends-names : (ns : List Name) → goodNames [] ns ≡ true → Ends namesBody (joined (map stringBytes ns)) (nameList ns)
 unfolding namesBody
@@ -210,7 +206,7 @@ unfolding levelBytes
 more-levels t xs good few known reader row =
     let envelope : length (vxBytes 0) ≡ 2 = unfold vxBytes bytes in refl in
     let body : List ℕ = joined (map (bytes 4) xs) ++ vxBytes 0 in
-    let small : length body < 65536 = omega (arith, length-append (joined (map (bytes 4) xs)) (vxBytes 0), length-entries 4 (bytes 4) (length-bytes 4) xs) in
+    let small : length body < 65536 = omega (arith, length-append (joined (map (bytes 4) xs)) (vxBytes 0), length-each 4 (bytes 4) (length-bytes 4) xs) in
     more-sub values t body good small (rw reader (ends (reads-floats _ xs known (reads-as _ (reads-vx 0 (omega arith)))))) row
 
 side-small : (n : ℕ) → sideNumber n ≡ true → n < 65536

@@ -9,15 +9,12 @@ use lib.ListN.{length, replicate, length-append}
 use Rattle.format.specs.Bytes.{spelt, joined}
 use Rattle.format.specs.Mesh.{Polygon, Name, Mesh}
 use Rattle.format.specs.Canonical.{bytes, vxBytes, stringBytes, chunkBytes, pointBytes, polygonBytes, typeOf, pairsOf, pairBytes, runs, unlessEmpty, runChunks, surfaceChunks, canonicalChunks, encoded, canonical}
+use Rattle.format.specs.Contracts.{total}
 use Rattle.format.proofs.Puts.{total-append}
-use Rattle.format.proofs.Facts.{length-entries}
+use Rattle.format.proofs.Facts.{length-each}
 use Rattle.format.proofs.CanonicalLengths.{length-bytes, length-point, length-vx, length-form}
-use Rattle.laws.proofs.Bodies.{length-string}
+use Rattle.laws.proofs.Bodies.{string-longer}
 use Rattle.laws.proofs.Polygons.{joined-runs}
-
--- the length of what some elements are written as, joined
-abbrev total : {A B : Type 0} → (A → List B) → List A → ℕ
-total f xs = length (joined (map f xs))
 
 -- a chunk is no shorter than what it holds
 total-unless : {A : Type 0} (tag type : String) (bytesOf : A → List ℕ) (xs : List A) → total bytesOf xs ≤ total encoded (unlessEmpty tag type bytesOf xs)
@@ -51,7 +48,7 @@ length-polygons (p ∷ ps) =
 length-names : (ns : List Name) → length ns + length (joined ns) ≤ total stringBytes ns
 unfolding joined
 length-names [] = omega arith
-length-names (n ∷ ns) = omega (arith, length-append (stringBytes n) (joined (map stringBytes ns)), length-string n, length-append n (joined ns), length-names ns)
+length-names (n ∷ ns) = omega (arith, length-append (stringBytes n) (joined (map stringBytes ns)), string-longer n, length-append n (joined ns), length-names ns)
 
 total-run : (r : List Polygon) → length r + total verticesOf r ≤ total encoded (runChunks r)
 unfolding runChunks joined
@@ -76,7 +73,7 @@ total-mesh m =
     let c = joined (map runChunks (runs (m .polygons))) in
     let d = surfaceChunks (m .names) (m .surfaces) in
     let held : length (m .polygons) + total verticesOf (m .polygons) ≤ total encoded c = rw (joined-runs (m .polygons)) at (total-runs (runs (m .polygons))) in
-    omega (arith, total-append encoded a (b ++ (c ++ d)), total-append encoded b (c ++ d), total-append encoded c d, total-unless "TAGS" "" stringBytes (m .names), length-names (m .names), total-unless "PNTS" "" pointBytes (m .points), length-entries 12 pointBytes length-point (m .points))
+    omega (arith, total-append encoded a (b ++ (c ++ d)), total-append encoded b (c ++ d), total-append encoded c d, total-unless "TAGS" "" stringBytes (m .names), length-names (m .names), total-unless "PNTS" "" pointBytes (m .points), length-each 12 pointBytes length-point (m .points))
 
 -- the counts of a mesh, as its tables have them, are at most so many
 pub record Counts (m : Mesh) (most : ℕ) : Type 0 where

@@ -24,7 +24,7 @@ use Rattle.format.specs.Surfaces.{Value, value, levelTag, floatLevel, lwobValue
 use Rattle.format.specs.Bodies.{Part, pointList, nameList, polygonList, tagging, surface, skippedChunk, point, pointsBody, newName, name, namesAfter, namesBody, vertex, lwobVertices, inNameList, detail, details, detailsAfter, face, facesBody, patch, patchesBody, countBits, lwo2Vertices, polygon, polygonKind, polygonsBody, pair, taggingBody, surfaceStrings, surfaceBody}
 use Rattle.format.specs.Rules.{Before, there, count, when_read_, judge}
 use Rattle.format.specs.Written.{goodPolygon, noZero, goodNames}
-use Rattle.format.proofs.Facts.{every-at, all-first, all-rest, all-append-true, all-drop, all-part, between-true}
+use Rattle.format.proofs.Facts.{both, every-at, all-first, all-rest, all-append-true, all-drop, all-part, between-true}
 use Rattle.format.proofs.ListedTags.{judge-cases}
 use Rattle.laws.proofs.GoodPolygons.{is-good}
 use Rattle.format.proofs.Levels.{colour-finite, level-finite}
@@ -53,9 +53,6 @@ record Obeys (B : Type 0) (most : ℕ) {A : Type 0} (good : A → Bool) (r : Rea
 
 abbrev any : {A : Type 0} → A → Bool
 any x = true
-
-both : {a b : Bool} → a ≡ true → b ≡ true → a && b ≡ true
-both p q = rw (p, q)
 
 part-of : {a b : Bool} → a && b ≡ true → (a ≡ true) × (b ≡ true)
 part-of {a} {b} e = and-eq-true-iff a b .0 e

@@ -7,33 +7,24 @@ use native.Mathlib.Omega.{arith}
 use native.Mathlib.Nat.{div-add-mod', mul-div-cancel, mul-mod-left}
 use lib.Dec.{leb, eqb}
 use lib.ListN.{length, drop, getD, replicate, length-drop, take-append-drop, length-map}
-use lib.Seq.{drop-cons, drop-length, length-take-le}
+use lib.Seq.{take-all, length-take-le}
 use borrow.Author.Tests.{le-leb, eq-eqb, eqb-true}
 use Rattle.format.specs.Bytes.{every, sum, joined}
 use Rattle.format.specs.Limits.{fileLimit, entryLimit}
 use Rattle.format.specs.Mesh.{pointWords, pointFrom, pointSize, Polygon, polygonWords, polygonSize, surfaceWords, surfaceFrom, recordSize, word, Mesh, Tables, tables}
 use Rattle.format.specs.Canonical.{canonical}
 use Rattle.format.specs.Written.{pieces, entries, polygonsFrom, vertexCounts, meshFrom, wholeEntries, goodMesh, isMesh}
-use Rattle.format.proofs.Facts.{every-at, length-entries, length-joined}
-use Rattle.format.proofs.Indexed.{pieces-joined}
+use Rattle.format.proofs.Facts.{every-at, length-each, length-joined}
+use Rattle.format.proofs.Indexed.{no-elements, elements, elements-are, pieces-lengths, pieces-joined}
 use Rattle.laws.proofs.Meshes.{good}
 use Rattle.laws.proofs.Lengths.{Counts, counts}
 
 -- ---- pieces
 
-nil : {A : Type 0} (xs : List A) → 0 ≡ length xs → [] ≡ xs
-nil [] e = refl
-nil (x ∷ xs) e = absurd (omega arith)
-
 joined-pieces : {A : Type 0} (ns : List ℕ) (xs : List A) → sum ns ≡ length xs → joined (pieces ns xs) ≡ xs
 unfolding pieces sum joined
-joined-pieces [] xs e = nil xs e
+joined-pieces [] xs e = sym (no-elements xs e)
 joined-pieces (n ∷ ns) xs e = rw (joined-pieces ns (drop n xs) (omega (arith, length-drop n xs))) (take-append-drop n xs)
-
-length-pieces : {A : Type 0} (ns : List ℕ) (xs : List A) → sum ns ≡ length xs → map length (pieces ns xs) ≡ ns
-unfolding pieces sum
-length-pieces [] xs e = refl
-length-pieces (n ∷ ns) xs e = rw (length-take-le n xs (omega arith), length-pieces ns (drop n xs) (omega (arith, length-drop n xs)))
 
 -- ---- entries of n words
 
@@ -74,23 +65,13 @@ entries-back : {A : Type 0} (n : ℕ) (words : A → List ℕ) (from : List ℕ 
     → (ws : List ℕ) → wholeEntries n ws ≡ true → joined (map words (map from (entries n ws))) ≡ ws
 entries-back n words from back ws ok = let w = whole n ws ok in ap joined (even-map n words from back (w .even)) ∙ w .back
 
--- n words of a list, from the k-th on
-front : ℕ → ℕ → List ℕ → List ℕ
-front k zero e = []
-front k (suc n) e = getD e k 0 ∷ front (suc k) n e
-
-front-eq : (k n : ℕ) (e : List ℕ) → k + n ≡ length e → front k n e ≡ drop k e
-unfolding front
-front-eq k zero e long = let all : k ≡ length e = omega arith in rw (all, drop-length e)
-front-eq k (suc n) e long = rw (front-eq (suc k) n e (omega arith)) (sym (drop-cons e k 0 (omega arith)))
-
 point-words : (e : List ℕ) → length e ≡ pointSize → pointWords (pointFrom e) ≡ e
-unfolding front
-point-words e long = front-eq 0 pointSize e (omega arith)
+unfolding elements
+point-words e long = elements-are 0 pointSize e (omega arith) ∙ take-all pointSize e (omega arith)
 
 surface-words : (e : List ℕ) → length e ≡ recordSize → surfaceWords (surfaceFrom e) ≡ e
-unfolding front
-surface-words e long = front-eq 0 recordSize e (omega arith)
+unfolding elements
+surface-words e long = elements-are 0 recordSize e (omega arith) ∙ take-all recordSize e (omega arith)
 
 -- ---- polygons
 
@@ -119,7 +100,7 @@ tables-back t ok = λ i. record {
   points = entries-back pointSize pointWords pointFrom point-words (t .points) (every-at _ 0 ok) i;
   polygons = polygons-same i;
   vertices = vertices-same i;
-  names = length-pieces (t .names) (t .nameBytes) bytes-agree i;
+  names = pieces-lengths (t .names) (t .nameBytes) bytes-agree i;
   nameBytes = joined-pieces (t .names) (t .nameBytes) bytes-agree i;
   records = entries-back recordSize surfaceWords surfaceFrom surface-words (t .records) (every-at _ 5 ok) i;
 }
@@ -142,7 +123,7 @@ tables-back t ok = λ i. record {
     vertices-same : joined (map (λ p. p .vertices) (polygonsFrom es (pieces ns (t .vertices)))) ≡ t .vertices
     vertices-same =
         let vs : List (List ℕ) = pieces ns (t .vertices) in
-        ap joined (polygon-vertices es vs (omega (arith, length-map vs length, ap length (length-pieces ns (t .vertices) vertices-agree), length-map es (word 1))))
+        ap joined (polygon-vertices es vs (omega (arith, length-map vs length, ap length (pieces-lengths ns (t .vertices) vertices-agree), length-map es (word 1))))
         ∙ joined-pieces ns (t .vertices) vertices-agree
 
 -- ---- the tables of a mesh
@@ -153,7 +134,7 @@ same-lengths n words long (x ∷ xs) = rw (long x, same-lengths n words long xs)
 
 module _ {A : Type 0} (n : ℕ) (words : A → List ℕ) (some : 0 < n) (long : (x : A) → length (words x) ≡ n) (xs : List A) where
   many : length (joined (map words xs)) / n ≡ length xs
-  many = rw (length-entries n words long xs) (mul-div-cancel (length xs) some)
+  many = rw (length-each n words long xs) (mul-div-cancel (length xs) some)
 
   entries-of : entries n (joined (map words xs)) ≡ map words xs
   unfolding entries
@@ -162,7 +143,7 @@ module _ {A : Type 0} (n : ℕ) (words : A → List ℕ) (some : 0 < n) (long : 
   whole-of : length xs ≤ entryLimit → wholeEntries n (joined (map words xs)) ≡ true
   unfolding wholeEntries
   whole-of few =
-      rw (many, le-leb (length xs) entryLimit few, length-entries n words long xs, mul-mod-left (length xs) n)
+      rw (many, le-leb (length xs) entryLimit few, length-each n words long xs, mul-mod-left (length xs) n)
 
 whole-words : (ws : List ℕ) → length ws ≤ entryLimit → wholeEntries 1 ws ≡ true
 unfolding wholeEntries

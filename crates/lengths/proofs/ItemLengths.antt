@@ -15,21 +15,14 @@ use Rattle.format.specs.Chunks.{sizeOf}
 use Rattle.format.specs.Mesh.{Surface, Name, word, polygonSize}
 use Rattle.format.specs.Canonical.{bytes, vxBytes, stringBytes, chunkBytes, polygonBytes, pairBytes, levelBytes, surfaceBytes, unlessEmpty, surfaceChunks, encoded}
 use Rattle.format.specs.Written.{pieces, entries, polygonsFrom, vertexCounts}
+use Rattle.format.specs.Contracts.{total}
 use Rattle.format.proofs.Puts.{total-append}
-use Rattle.format.proofs.CanonicalLengths.{length-bytes, length-vx}
-use Rattle.mesh.specs.Lent.{polygonsOf}
+use Rattle.format.proofs.CanonicalLengths.{length-bytes, length-string}
+use Rattle.format.proofs.Indexed.{no-elements}
+use Rattle.mesh.proofs.Pairs.{some-pairs}
+use Rattle.mesh.specs.Lent.{meshPolygons}
 use Rattle.mesh.proofs.Entries.{length-entries}
-use Rattle.output.specs.Outputs.{total}
 use Rattle.lengths.specs.Sizes.{unlessNone, surfacesSize}
-
--- ---- items
-
-pub length-string : (n : Name) → length (stringBytes n) ≡ stringSize (length n)
-unfolding stringBytes
-length-string n =
-    let zeros : ℕ = stringSize (length n) - length n in
-    let long : length (replicate {A = ℕ} zeros 0) ≡ zeros = length-replicate zeros 0 in
-    omega (arith, length-append n (replicate zeros 0))
 
 -- ---- chunks
 
@@ -64,11 +57,6 @@ strings-size (n ∷ ns) bytes agree =
     length-append (stringBytes name) (joined (map stringBytes (pieces ns (drop n bytes))))
     ∙ rw (length-string name, long, strings-size ns (drop n bytes) (omega (arith, length-drop n bytes)))
 
-pub name-lengths : (ns bytes : List ℕ) → sum ns ≡ length bytes → map length (pieces ns bytes) ≡ ns
-unfolding pieces sum
-name-lengths [] bytes agree = refl
-name-lengths (n ∷ ns) bytes agree = rw (length-take-le n bytes (omega arith), name-lengths ns (drop n bytes) (omega (arith, length-drop n bytes)))
-
 -- ---- surfaces
 
 pub surface-size : (n : Name) (s : Surface) → length (surfaceBytes n s) ≡ stringSize (length n) + 90
@@ -89,14 +77,10 @@ surfaces-size (n ∷ ns) (s ∷ ss) =
 
 -- ---- polygons
 
-empty : (vs : List ℕ) → 0 ≡ length vs → vs ≡ []
-empty [] e = refl
-empty (v ∷ vs) e = absurd (omega arith)
-
 polygons-size : (es : List (List ℕ)) (vs : List ℕ) → sum (map (word 1) es) ≡ length vs
     → total polygonBytes (polygonsFrom es (pieces (map (word 1) es) vs)) ≡ 2 * length es + total vxBytes vs
 unfolding polygonsFrom polygonBytes pieces sum joined
-polygons-size [] vs agree = rw (empty vs agree)
+polygons-size [] vs agree = rw (no-elements vs agree)
 polygons-size (e ∷ es) vs agree =
     let n : ℕ = word 1 e in
     let here : List ℕ = take n vs in
@@ -107,16 +91,9 @@ polygons-size (e ∷ es) vs agree =
     let all-of : total vxBytes vs ≡ total vxBytes here + total vxBytes (drop n vs) = rw (take-append-drop n vs) at both in
     omega (arith, length-append (count ++ corners) (joined (map polygonBytes rest)), length-append count corners, length-bytes 2 (length here), polygons-size es (drop n vs) (omega (arith, length-drop n vs)))
 
-pub polygons-held : (ws vs : List ℕ) → sum (vertexCounts ws) ≡ length vs → total polygonBytes (polygonsOf ws vs) ≡ 2 * (length ws / polygonSize) + total vxBytes vs
-unfolding polygonsOf
+pub polygons-held : (ws vs : List ℕ) → sum (vertexCounts ws) ≡ length vs → total polygonBytes (meshPolygons ws vs) ≡ 2 * (length ws / polygonSize) + total vxBytes vs
+unfolding meshPolygons
 polygons-held ws vs agree = rw (← length-entries polygonSize ws) (polygons-size (entries polygonSize ws) vs agree)
-
--- a pair has some bytes, so there are none where there are no bytes
-pub some-pairs : (t : ℕ × ℕ) (ts : List (ℕ × ℕ)) → total pairBytes (t ∷ ts) ≡ 0 → ⊥
-unfolding joined pairBytes
-some-pairs t ts none =
-    let one = bytes 2 (t .1 - 1) in
-    omega (arith, none, length-append (vxBytes (t .0) ++ one) (joined (map pairBytes ts)), length-append (vxBytes (t .0)) one, length-vx (t .0))
 
 pub by-bytes : (ts : List (ℕ × ℕ)) (n : ℕ) → unlessNone (length ts) n ≡ unlessNone (total pairBytes ts) n
 unfolding unlessNone joined

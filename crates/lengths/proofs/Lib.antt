@@ -1,5 +1,4 @@
 pub mod SizeSum
 pub mod ItemLengths
-pub mod Pairs
 pub mod RunLengths
 pub mod FileLength

@@ -10,57 +10,48 @@ use Rattle.format.specs.Bytes.{if_then_else_, spelt, sum, joined}
 use Rattle.format.specs.Mesh.{Polygon, FACE, polygonSize}
 use Rattle.format.specs.Canonical.{vxBytes, polygonBytes, typeOf, pairsOf, pairBytes, runs, unlessEmpty, runChunks, encoded}
 use Rattle.format.specs.Written.{vertexCounts}
-use Rattle.mesh.specs.Lent.{column, polygonsOf}
-use Rattle.mesh.specs.Polygons.{runEnd}
+use Rattle.mesh.specs.Lent.{column, meshPolygons}
+use Rattle.mesh.specs.Polygons.{runEnd, pairsFrom}
 use Rattle.mesh.proofs.Runs.{surfaces, length-polygons}
 use Rattle.mesh.proofs.RunWalk.{RunWalk, words, here, turn, end}
-use Rattle.output.specs.Outputs.{total}
-use Rattle.lengths.specs.Sizes.{Counted, unlessNone, pairsFrom}
+use Rattle.lengths.specs.Sizes.{Counted, unlessNone}
 use Rattle.lengths.proofs.SizeSum as sizes
 use Rattle.lengths.proofs.SizeSum.{SizeSum}
+use Rattle.format.specs.Contracts.{total}
 use Rattle.format.proofs.Puts.{total-append}
+use Rattle.format.proofs.CanonicalLengths.{length-type}
 use Rattle.lengths.proofs.ItemLengths.{unless-size, polygons-held, by-bytes}
-use Rattle.lengths.proofs.Pairs.{pairs-are}
+use Rattle.mesh.proofs.Pairs.{pairs-are}
 
 -- ---- one run
 
-pub four : (kind : ℕ) → length (spelt (typeOf kind)) ≡ 4
-four kind = go (eqb kind FACE)
-  where
-    go : (b : Bool) → length (spelt (if b then "FACE" else "PTCH")) ≡ 4
-    go true = refl
-    go false = refl
-
-abbrev pub surfaceOf : Polygon → ℕ
-surfaceOf p = p .surface
-
 run-chunks : (ps : List Polygon) → 0 < length ps
-    → total encoded (runChunks ps) ≡ unlessNone (length ps) (4 + total polygonBytes ps) + unlessNone (length (pairsFrom 0 (map surfaceOf ps))) (4 + length (pairsFrom 0 (map surfaceOf ps)))
+    → total encoded (runChunks ps) ≡ unlessNone (length ps) (4 + total polygonBytes ps) + unlessNone (length (pairsFrom 0 (map (λ p. p .surface) ps))) (4 + length (pairsFrom 0 (map (λ p. p .surface) ps)))
 unfolding runChunks
 run-chunks [] some = absurd (omega arith)
 run-chunks (p ∷ r) some =
     let ts : List (ℕ × ℕ) = pairsOf 0 (p ∷ r) in
     total-append encoded (unlessEmpty "POLS" (typeOf (p .kind)) polygonBytes (p ∷ r)) (unlessEmpty "PTAG" "SURF" pairBytes ts)
-    ∙ rw (unless-size "POLS" (typeOf (p .kind)) polygonBytes (p ∷ r) refl, unless-size "PTAG" "SURF" pairBytes ts refl, four (p .kind), by-bytes ts (4 + total pairBytes ts), pairs-are 0 (p ∷ r))
+    ∙ rw (unless-size "POLS" (typeOf (p .kind)) polygonBytes (p ∷ r) refl, unless-size "PTAG" "SURF" pairBytes ts refl, length-type (p .kind), by-bytes ts (4 + total pairBytes ts), pairs-are 0 (p ∷ r))
 
 pub run-size : (run vs : List ℕ) → sum (vertexCounts run) ≡ length vs → polygonSize ≤ length run
-    → total encoded (runChunks (polygonsOf run vs))
+    → total encoded (runChunks (meshPolygons run vs))
     ≡ unlessNone (length run / polygonSize) (4 + 2 * (length run / polygonSize) + total vxBytes vs) + unlessNone (length (pairsFrom 0 (column polygonSize 2 run))) (4 + length (pairsFrom 0 (column polygonSize 2 run)))
 run-size run vs agree some =
     let n : ℕ = length run / polygonSize in
-    let count : length (polygonsOf run vs) ≡ n = length-polygons run vs in
-    let held : 4 + total polygonBytes (polygonsOf run vs) ≡ 4 + 2 * n + total vxBytes vs = omega (arith, polygons-held run vs agree) in
-    run-chunks (polygonsOf run vs) (omega arith) ∙ rw (count, held, surfaces run vs)
+    let count : length (meshPolygons run vs) ≡ n = length-polygons run vs in
+    let held : 4 + total polygonBytes (meshPolygons run vs) ≡ 4 + 2 * n + total vxBytes vs = omega (arith, polygons-held run vs agree) in
+    run-chunks (meshPolygons run vs) (omega arith) ∙ rw (count, held, surfaces run vs)
 
 -- ---- all runs
 
 -- the bytes of the runs that are left
 abbrev pub RunsLeft : (ws vs : List ℕ) → (bytes at first : ℕ) → List (List Polygon) → Type 0
 RunsLeft ws vs bytes at first rs =
-    SizeSum (total encoded (joined (map runChunks (runs (polygonsOf ws vs))))) bytes (total encoded (joined (map runChunks rs))) (12 * at + 4 * first)
+    SizeSum (total encoded (joined (map runChunks (runs (meshPolygons ws vs))))) bytes (total encoded (joined (map runChunks rs))) (12 * at + 4 * first)
 
 module _ {ws vs : List ℕ} {bytes at first : ℕ} (w : RunWalk ws vs (RunsLeft ws vs bytes at first) at first) where
-  pub runs-end : length ws - at < polygonSize → Counted bytes (total encoded (joined (map runChunks (runs (polygonsOf ws vs))))) (12 * length ws + 4 * length vs)
+  pub runs-end : length ws - at < polygonSize → Counted bytes (total encoded (joined (map runChunks (runs (meshPolygons ws vs))))) (12 * length ws + 4 * length vs)
   unfolding joined
   runs-end short = sizes.end (end w short) refl (omega (arith, w .walk .inside, w .walk .agree))
 
@@ -69,10 +60,10 @@ module _ {ws vs : List ℕ} {bytes at first : ℕ} (w : RunWalk ws vs (RunsLeft 
     run = take (to - at) (drop at ws)
 
     pub runs-turn : {n r : ℕ} → n ≡ sum (vertexCounts run)
-        → Counted r (total encoded (runChunks (polygonsOf run (take (first + n - first) (drop first vs))))) (12 * length run + 4 * length (take (first + n - first) (drop first vs)))
+        → Counted r (total encoded (runChunks (meshPolygons run (take (first + n - first) (drop first vs))))) (12 * length run + 4 * length (take (first + n - first) (drop first vs)))
         → RunWalk ws vs (RunsLeft ws vs (bytes + r) to (first + n)) to (first + n)
     unfolding joined
     runs-turn {n} count s =
         let h = here w fits to-is count in
-        let one = total-append encoded (runChunks (polygonsOf run (take (first + n - first) (drop first vs)))) _ in
+        let one = total-append encoded (runChunks (meshPolygons run (take (first + n - first) (drop first vs)))) _ in
         turn w fits to-is count (sizes.turn h one (s .size-is) (omega (arith, s .few, words w fits to-is count, h .few)))

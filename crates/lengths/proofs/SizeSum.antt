@@ -9,7 +9,7 @@ use Rattle.format.specs.Mesh.{word, recordSize}
 use Rattle.mesh.specs.Lent.{entryAt, column}
 use Rattle.format.proofs.Indexed.{at-index, past-end}
 use Rattle.mesh.proofs.Entries.{column-at}
-use Rattle.output.specs.Outputs.{total}
+use Rattle.format.specs.Contracts.{total}
 use Rattle.lengths.specs.Sizes.{Counted, surfaceSize, surfacesSize}
 
 pub record SizeSum (goal so-far rest most : ℕ) : Type 0 where

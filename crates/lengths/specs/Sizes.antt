@@ -17,16 +17,6 @@ pub record Counted (r size most : ℕ) : Type 0 where
 unfoldable pub unlessNone : (count n : ℕ) → ℕ
 unlessNone count n = if eqb count 0 then 0 else sizeOf 4 n
 
--- ---- runs
-
--- the pairs of a run as bytes, by the surfaces of its polygons: one for each that has a surface; i is its number in the run
-abbrev pub pairOf : (i surface : ℕ) → List ℕ
-pairOf i surface = if eqb surface 0 then [] else pairBytes (i, surface)
-
-unfoldable pub pairsFrom : (i : ℕ) → (surfaces : List ℕ) → List ℕ
-pairsFrom i [] = []
-pairsFrom i (s ∷ ss) = pairOf i s ++ pairsFrom (suc i) ss
-
 -- ---- surfaces
 
 -- a SURF is written for a defined name: its name, and 90 bytes that are the same for all

@@ -7,7 +7,7 @@ ghost use Rattle.format.specs.Limits.{entryLimit};
 ghost use Rattle.format.specs.Items.{stringSize};
 ghost use Rattle.format.specs.Chunks.{sizeOf};
 ghost use Rattle.format.specs.Canonical.{vxBytes};
-ghost use Rattle.output.specs.Outputs.{total};
+ghost use Rattle.format.specs.Contracts.{total};
 ghost use Rattle.lengths.specs.Sizes.{Counted, unlessNone};
 use words::wide;
 

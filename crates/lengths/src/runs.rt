@@ -4,11 +4,11 @@ ghost use Prim.Native.Nat.{_+_, _*_, _≤_};
 ghost use lib.ListN.{length};
 ghost use Rattle.format.specs.Bytes.{joined};
 ghost use Rattle.format.specs.Mesh.{polygonSize};
+ghost use Rattle.format.specs.Contracts.{total};
 ghost use Rattle.format.specs.Canonical.{encoded, runs, runChunks};
-ghost use Rattle.mesh.specs.Lent.{column, polygonsOf};
-ghost use Rattle.mesh.specs.Polygons.{PolygonsLent};
-ghost use Rattle.output.specs.Outputs.{total};
-ghost use Rattle.lengths.specs.Sizes.{Counted, pairOf, pairsFrom};
+ghost use Rattle.mesh.specs.Lent.{column, meshPolygons};
+ghost use Rattle.mesh.specs.Polygons.{PolygonsLent, pairOf, pairsFrom};
+ghost use Rattle.lengths.specs.Sizes.{Counted};
 use crate::items::unless_empty;
 use crate::items::vertices_length;
 use crate::items::vx_length;
@@ -41,7 +41,7 @@ pub fn pairs_length(run: &[u32]) -> usize
 // Both chunks of a run. Each has four bytes before its entries, and a polygon two before its vertices.
 pub fn run_length(run: &[u32], vertices: &[u32]) -> usize
     requires { ⌜ PolygonsLent (now run) (now vertices) × (polygonSize ≤ length (now run)) ⌝ }
-    ensures { λ r. ⌜ Counted r (total encoded (runChunks (polygonsOf (now (run .entry)) (now (vertices .entry))))) (12 * length (now (run .entry)) + 4 * length (now (vertices .entry))) ⌝ }
+    ensures { λ r. ⌜ Counted r (total encoded (runChunks (meshPolygons (now (run .entry)) (now (vertices .entry))))) (12 * length (now (run .entry)) + 4 * length (now (vertices .entry))) ⌝ }
 {
     let count = run.len() / POLYGON_WORDS;
     let pairs = pairs_length(run);
@@ -50,7 +50,7 @@ pub fn run_length(run: &[u32], vertices: &[u32]) -> usize
 
 pub fn runs_length(polygons: &[u32], vertices: &[u32]) -> usize
     requires { ⌜ PolygonsLent (now polygons) (now vertices) ⌝ }
-    ensures { λ r. ⌜ Counted r (total encoded (joined (map runChunks (runs (polygonsOf (now (polygons .entry)) (now (vertices .entry))))))) (12 * length (now (polygons .entry)) + 4 * length (now (vertices .entry))) ⌝ }
+    ensures { λ r. ⌜ Counted r (total encoded (joined (map runChunks (runs (meshPolygons (now (polygons .entry)) (now (vertices .entry))))))) (12 * length (now (polygons .entry)) + 4 * length (now (vertices .entry))) ⌝ }
 {
     let mut bytes = 0;
     let mut at = 0;

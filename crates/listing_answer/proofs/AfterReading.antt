@@ -11,9 +11,10 @@ use Rattle.format.specs.Mesh.{Polygon, Mesh, Tables, polygonWords, polygonSize,
 use Rattle.format.specs.Written.{pieces, entries, polygonsFrom, vertexCounts, meshFrom}
 use Rattle.format.specs.Rules.{Outcome, refused, gives, rules}
 use Rattle.format.specs.Answer.{answer, fits, over, filled, tablesAfter, Reads}
-use Rattle.format.proofs.Facts.{length-entries}
+use Rattle.format.specs.Contracts.{polygonsWords, polygonsVertices, vertexTotal}
+use Rattle.format.proofs.PolygonTables.{words-length, vertices-length}
 use Rattle.laws.proofs.Tables.{mesh-from-tables}
-use Rattle.mesh.specs.Lent.{polygonsOf}
+use Rattle.mesh.specs.Lent.{meshPolygons}
 use Rattle.mesh.proofs.Entries.{first}
 use Rattle.read_answer.specs.declared.Answer.{Answer}
 use Rattle.read_answer.specs.Reads.{answerAs}
@@ -22,30 +23,13 @@ use Rattle.listing_answer.specs.Lent.{CountsHeld, polygonsFront, vertice
 
 -- ---- a mesh's polygons in the tables
 
-abbrev words : List Polygon → List ℕ
-words ps = joined (map polygonWords ps)
-
-abbrev vertices : List Polygon → List ℕ
-vertices ps = joined (map (λ (p : Polygon). p .vertices) ps)
-
-abbrev vertexCount : List Polygon → ℕ
-vertexCount ps = sum (map (λ (p : Polygon). length (p .vertices)) ps)
-
-words-length : (ps : List Polygon) → length (words ps) ≡ length ps * polygonSize
-words-length ps = length-entries polygonSize polygonWords (λ p. refl) ps
-
-vertices-length : (ps : List Polygon) → length (vertices ps) ≡ vertexCount ps
-unfolding joined sum
-vertices-length [] = refl
-vertices-length (p ∷ ps) = length-append (p .vertices) (vertices ps) ∙ ap (λ n. length (p .vertices) + n) (vertices-length ps)
-
-counts-agree : (ps : List Polygon) → sum (vertexCounts (words ps)) ≡ vertexCount ps
+counts-agree : (ps : List Polygon) → sum (vertexCounts (polygonsWords ps)) ≡ vertexTotal ps
 unfolding joined sum entries pieces
 counts-agree [] = refl
-counts-agree (p ∷ ps) = rw (first polygonSize (words (p ∷ ps)) (omega arith) (omega arith)) (ap (λ n. length (p .vertices) + n) (counts-agree ps))
+counts-agree (p ∷ ps) = rw (first polygonSize (polygonsWords (p ∷ ps)) (omega arith) (omega arith)) (ap (λ n. length (p .vertices) + n) (counts-agree ps))
 
-polygons-back : (m : Mesh) → polygonsOf (words (m .polygons)) (vertices (m .polygons)) ≡ m .polygons
-unfolding polygonsOf meshFrom tables
+polygons-back : (m : Mesh) → meshPolygons (polygonsWords (m .polygons)) (polygonsVertices (m .polygons)) ≡ m .polygons
+unfolding meshPolygons meshFrom tables
 polygons-back m = ap (λ (m : Mesh). m .polygons) (mesh-from-tables m)
 
 -- ---- after the reading
@@ -57,7 +41,7 @@ pub record ListsOutcome (a : Answer) (t t′ : Tables) (o : Outcome) : Type 0 wh
 
 module _ {a : Answer} {t t′ : Tables} where
   after-refusal : (number place : ℕ) → answerAs a ≡ answer (refused number place) t → ListsOutcome a t t′ (refused number place)
-  unfolding answer polygonsGiven countedPolygons polygonsOf polygonsFrom entries pieces sum
+  unfolding answer polygonsGiven countedPolygons meshPolygons polygonsFrom entries pieces sum
   after-refusal number place answers =
       let none : a .polygons ≡ 0 = ap (λ r. r .needs .polygons) answers in
       let none-either : a .vertices ≡ 0 = ap (λ r. r .needs .vertices) answers in
@@ -82,13 +66,13 @@ module _ {a : Answer} {t t′ : Tables} where
     accepted leaves =
         let ps = m .polygons in
         let count : a .polygons ≡ length ps = ap (λ r. r .needs .polygons) answers in
-        let vertex-count : a .vertices ≡ vertexCount ps = ap (λ r. r .needs .vertices) answers in
-        let table : t′ .polygons ≡ over (words ps) (t .polygons) = ap (λ (t : Tables). t .polygons) leaves in
-        let vertex-table : t′ .vertices ≡ over (vertices ps) (t .vertices) = ap (λ (t : Tables). t .vertices) leaves in
-        let front : polygonsFront a (t′ .polygons) ≡ words ps = rw (count, table) (take-at (words ps) _ _ (words-length ps)) in
-        let vertex-front : verticesFront a (t′ .vertices) ≡ vertices ps = rw (vertex-count, vertex-table) (take-at (vertices ps) _ _ (vertices-length ps)) in
-        let long = ap length table ∙ length-append (words ps) _ in
-        let vertex-long = ap length vertex-table ∙ length-append (vertices ps) _ in
+        let vertex-count : a .vertices ≡ vertexTotal ps = ap (λ r. r .needs .vertices) answers in
+        let table : t′ .polygons ≡ over (polygonsWords ps) (t .polygons) = ap (λ (t : Tables). t .polygons) leaves in
+        let vertex-table : t′ .vertices ≡ over (polygonsVertices ps) (t .vertices) = ap (λ (t : Tables). t .vertices) leaves in
+        let front : polygonsFront a (t′ .polygons) ≡ polygonsWords ps = rw (count, table) (take-at (polygonsWords ps) _ _ (words-length ps)) in
+        let vertex-front : verticesFront a (t′ .vertices) ≡ polygonsVertices ps = rw (vertex-count, vertex-table) (take-at (polygonsVertices ps) _ _ (vertices-length ps)) in
+        let long = ap length table ∙ length-append (polygonsWords ps) _ in
+        let vertex-long = ap length vertex-table ∙ length-append (polygonsVertices ps) _ in
         record {
           counts-held = λ ok. record {
             enough = omega (arith, count, long, words-length ps);

@@ -6,7 +6,7 @@ use lib.ListN.{length, take}
 use Rattle.format.specs.Bytes.{sum}
 use Rattle.format.specs.Mesh.{Polygon, polygonSize}
 use Rattle.format.specs.Written.{vertexCounts}
-use Rattle.mesh.specs.Lent.{polygonsOf}
+use Rattle.mesh.specs.Lent.{meshPolygons}
 use Rattle.read_answer.specs.declared.Answer.{Answer}
 use Rattle.read_answer.specs.Reads.{answerAs}
 use Rattle.listing_text.specs.Prints.{Prints, linesSize}
@@ -35,7 +35,7 @@ verticesFront a vertices = take (a .vertices) vertices
 
 -- and the polygons that stand there
 unfoldable pub countedPolygons : Answer → (polygons vertices : List ℕ) → List Polygon
-countedPolygons a polygons vertices = polygonsOf (polygonsFront a polygons) (verticesFront a vertices)
+countedPolygons a polygons vertices = meshPolygons (polygonsFront a polygons) (verticesFront a vertices)
 
 -- On an accepted file the tables hold as much as the answer counts.
 pub record CountsHeld (a : Answer) (polygons vertices : List ℕ) : Type 0 where

@@ -7,7 +7,7 @@ use native.Mathlib.Omega.{arith}
 use lib.ListN.{length, take, drop}
 use Rattle.format.specs.Mesh.{polygonOf, Polygon, polygonSize}
 use Rattle.mesh.specs.declared.polygons.Polygon as view
-use Rattle.mesh.specs.Lent.{polygonsOf}
+use Rattle.mesh.specs.Lent.{meshPolygons}
 use Rattle.mesh.specs.Polygons.{polygonAt}
 use Rattle.mesh.proofs.PolygonWalk as polygons
 use Rattle.mesh.proofs.PolygonWalk.{PolygonWalk, own-length}
@@ -20,7 +20,7 @@ pub record PrintedPolygons (ws vs t : List ℕ) (at : ℕ) (t′ : List ℕ) (ne
   pub lent : LinesLent t at ws vs
   pub counted : number ≤ entry
   pub walk :
-      PolygonWalk ws vs (λ ps. PrintedSoFar (polygonLines 0 (polygonsOf ws vs)) (polygonLines number ps) t at t′ next (31 * entry + 21 * first)) entry first
+      PolygonWalk ws vs (λ ps. PrintedSoFar (polygonLines 0 (meshPolygons ws vs)) (polygonLines number ps) t at t′ next (31 * entry + 21 * first)) entry first
 
 pub begin : {ws vs t : List ℕ} {at : ℕ} → LinesLent t at ws vs → PrintedPolygons ws vs t at t at 0 0 0
 begin lent = record { lent = lent; counted = omega arith; walk = polygons.begin (lent .agree) text.begin }
@@ -41,7 +41,7 @@ module _ {ws vs t t′ : List ℕ} {at next number entry first : ℕ} (w : Print
     room = omega (arith, sizes, w .lent .room, w .walk .left .prints .few, w .walk .left .prints .wrote .kept, w .walk .inside)
 
     abbrev later : List Polygon
-    later = polygonsOf (drop (entry + polygonSize) ws) (drop (p .end) vs)
+    later = meshPolygons (drop (entry + polygonSize) ws) (drop (p .end) vs)
 
     abbrev line : List ℕ
     line = lineOf number (p .kind) (p .surface) own

@@ -5,7 +5,7 @@ use mathlib.Core.List.{List, [], _++_, append-assoc, append-nil}
 use native.Mathlib.Omega.{arith}
 use lib.ListN.{length}
 use Rattle.output.specs.Outputs.{Wrote}
-use Rattle.output.proofs.PutSoFar.{nothing, then-wrote}
+use Rattle.output.proofs.PutSoFar.{wrote-none, then-wrote}
 use Rattle.listing_text.specs.Prints.{Prints}
 
 -- a text that was put takes its length
@@ -45,7 +45,7 @@ pub record PrintedSoFar (goal rest t : List ℕ) (at : ℕ) (t′ : List ℕ) (n
   pub so : goal ≡ so-far ++ rest
 
 pub begin : {goal t : List ℕ} {at : ℕ} → PrintedSoFar goal goal t at t at 0
-begin = record { so-far = []; prints = wrote-all nothing; so = refl }
+begin = record { so-far = []; prints = wrote-all wrote-none; so = refl }
 
 module _ {goal rest t t′ : List ℕ} {at next most : ℕ} (w : PrintedSoFar goal rest t at t′ next most) where
   pub end : rest ≡ [] → Prints t at goal t′ next most

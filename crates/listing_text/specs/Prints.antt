@@ -5,7 +5,7 @@ use mathlib.Core.List.{List}
 use lib.ListN.{length}
 use Rattle.format.specs.Bytes.{sum}
 use Rattle.format.specs.Written.{vertexCounts}
-use Rattle.mesh.specs.Lent.{polygonsOf}
+use Rattle.mesh.specs.Lent.{meshPolygons}
 use Rattle.output.specs.Outputs.{Wrote}
 use Rattle.listing_text.specs.Text.{polygonLines}
 
@@ -47,4 +47,4 @@ pub record LinesLent (out : List ℕ) (at : ℕ) (polygons vertices : List ℕ) 
 -- a line for each of them was put into the output
 abbrev pub PrintsLines : (before : List ℕ) → (at : ℕ) → (polygons vertices after : List ℕ) → (next : ℕ) → Type 0
 PrintsLines before at polygons vertices after next =
-    Prints before at (polygonLines 0 (polygonsOf polygons vertices)) after next (linesSize polygons vertices)
+    Prints before at (polygonLines 0 (meshPolygons polygons vertices)) after next (linesSize polygons vertices)

@@ -14,10 +14,10 @@ use Rattle.format.specs.Bodies.{Part}
 use Rattle.format.specs.Rules.{pointsOf, meshOf}
 use Rattle.format.specs.Answer.{fits, over, filled}
 use Rattle.format.specs.Contracts.{Put, FileRoom, FilePut, allNames}
-use Rattle.format.proofs.Facts.{every-at, length-entries, length-joined, joined-joined, map-joined}
+use Rattle.format.proofs.Facts.{every-at, length-each, length-joined, joined-joined, map-joined}
 use Rattle.load_lists.specs.Contracts.{filePoints, fileNameLengths, fileNameBytes}
 use Rattle.load_polygon_chunks.specs.Contracts.{allPolygons, filePolygons, fileVertices, FilePolygonsRoom}
-use Rattle.load_polygon_chunks.proofs.PolygonsInTables.{vertices-size}
+use Rattle.format.proofs.PolygonTables.{vertices-length}
 use Rattle.load_surfaces.specs.Contracts.{fileRecords, RecordsRoom}
 use Rattle.load.specs.Contracts.{TablesRoom, TablesPut}
 
@@ -54,7 +54,7 @@ module _ {kind : Kind} {file : List ℕ} {nameCount : ℕ} {t : Tables} (r : Tab
   pub points-room : FileRoom filePoints kind file (t .points)
   unfolding needs meshOf
   points-room =
-      let l : length (filePoints (r .parts)) ≡ length (joined (map pointsOf (r .parts))) * pointSize = rw (points-are (r .parts)) (length-entries pointSize pointWords (λ p. refl) (joined (map pointsOf (r .parts)))) in
+      let l : length (filePoints (r .parts)) ≡ length (joined (map pointsOf (r .parts))) * pointSize = rw (points-are (r .parts)) (length-each pointSize pointWords (λ p. refl) (joined (map pointsOf (r .parts)))) in
       record { parts = r .parts; sound = r .sound; fits = omega (arith, l, room .points) }
 
   pub lengths-room : FileRoom fileNameLengths kind file (t .names)
@@ -77,7 +77,7 @@ module _ {kind : Kind} {file : List ℕ} {nameCount : ℕ} {t : Tables} (r : Tab
     names-are = r .names-are;
     few = r .few;
     words-fit = omega (arith, room .polygons);
-    vertices-fit = omega (arith, vertices-size (allPolygons (r .parts)), room .vertices);
+    vertices-fit = omega (arith, vertices-length (allPolygons (r .parts)), room .vertices);
   }
 
   -- the names stand in their tables by now

@@ -6,8 +6,9 @@ use native.Mathlib.Omega.{arith}
 use lib.ListN.{length, take, drop, set, length-drop, length-set}
 use lib.Seq.{drop-drop}
 use Rattle.format.specs.Bytes.{number, joined}
-use Rattle.format.specs.Mesh.{Point, pointWords}
+use Rattle.format.specs.Mesh.{Point, pointWords, pointSize}
 use Rattle.format.specs.Contracts.{Put}
+use Rattle.format.proofs.Facts.{length-each}
 use Rattle.format.proofs.Puts.{put-none, put-snoc}
 use Rattle.load_lists.specs.Contracts.{PointsPut}
 use Rattle.load_lists.proofs.PointWords.{words, length-words, one-more, bodied, points-length}
@@ -48,11 +49,6 @@ module _ {s table₀ : List ℕ} {m n i : ℕ} {table : List ℕ} (f : WordsStor
 
 -- ---- three words at a time
 
-three-each : (ps : List Point) → length (joined (map pointWords ps)) ≡ length ps * 3
-unfolding joined
-three-each [] = refl
-three-each (p ∷ ps) = omega (arith, three-each ps)
-
 -- i words are put, those of whole points
 pub record PointsStored (s table₀ : List ℕ) (m n i : ℕ) (table : List ℕ) : Type 0 where
   pub filling : WordsStored s table₀ m n i table
@@ -87,6 +83,6 @@ module _ {s table₀ : List ℕ} {m n i : ℕ} {table : List ℕ} (f : PointsSto
   threes-end done = record {
     put = λ kind ps e.
         let b = points-length kind (drop 8 s) ps e in
-        let whole : n ≡ length ps * 3 = omega (arith, b, three-each ps, length-drop 8 s, f .filling .count) in
+        let whole : n ≡ length ps * pointSize = omega (arith, b, length-each pointSize pointWords (λ p. refl) ps, length-drop 8 s, f .filling .count) in
         points-end (f .filling) (omega (arith, f .threes, f .filling .few)) .put kind ps e;
   }

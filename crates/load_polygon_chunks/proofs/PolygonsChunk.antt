@@ -12,7 +12,8 @@ use Rattle.format.specs.Items.{fine, Reader, whole}
 use Rattle.format.specs.Mesh.{Polygon, pointWords, pointSize, polygonSize}
 use Rattle.format.specs.Bodies.{Part, pointList, nameList, skippedChunk, pointsBody, namesBody, taggingBody, surfaceBody}
 use Rattle.format.specs.Rules.{added, Before, after, count, when_read_, judge, from}
-use Rattle.format.proofs.Facts.{length-entries}
+use Rattle.format.specs.Contracts.{vertexTotal}
+use Rattle.format.proofs.Facts.{length-each}
 use Rattle.format.proofs.Puts.{total-append}
 use Rattle.load_vertices.specs.declared.Ends.{Ends}
 use Rattle.load_polygons.specs.Contracts as body
@@ -20,9 +21,10 @@ use Rattle.load_taggings.specs.Contracts.{TagsRoom, TagsPut}
 use Rattle.load_polygon_chunks.specs.declared.polygons.Latest.{Latest}
 use Rattle.load_polygon_chunks.specs.Held.{Held, heldPolygons, heldAfter, withPoints, withNames, withPolygons, HeldStored, PartRoom, PartPut}
 use Rattle.format.proofs.Tagging.{tagged-length}
+use Rattle.format.proofs.PolygonTables.{vertices-from}
 use Rattle.load_lists.proofs.PointsChunk.{chunk-length}
 use Rattle.format.proofs.PartByTag.{makes-surface, Always, always-when, always-if, always-skipped, Made, Holds, polygonsFrom, taggingFrom, holds-points}
-use Rattle.load_polygon_chunks.proofs.PolygonsInTables.{vertices-from, same-length, stored-more, stored-tagged}
+use Rattle.load_polygon_chunks.proofs.PolygonsInTables.{same-length, stored-more, stored-tagged}
 
 -- ---- chunks without points, names, polygons and tags
 
@@ -74,7 +76,7 @@ module _ {kind : Kind} {t : ℕ} {s : List ℕ} {nameCount : ℕ} {l : Latest} {
           rw (p .part-is, same)
           (record {
             base-is = omega (arith, w .base-is, w .points-are);
-            points-are = omega (arith, size, length-entries pointSize pointWords (λ q. refl) (p .of));
+            points-are = omega (arith, size, length-each pointSize pointWords (λ q. refl) (p .of));
             names-are = w .names-are;
             polygons-are = w .polygons-are;
             stored = w .stored;
@@ -113,7 +115,7 @@ module _ {kind : Kind} {t : ℕ} {s : List ℕ} {nameCount : ℕ} {l : Latest} {
         let old = length-append (r .held .earlier) (r .held .latest) in
         omega (arith, rw (polygons-in r .part-is) at (r .words-fit), w .start-is, w .end-is, old, length-append (heldPolygons (r .held)) new, length-map ps (from (r .held .base)))
 
-    vertices-fit : (r : PartRoom kind t s nameCount l words vertices) → l .last + body.vertexCount (polygons-in r .of .0) ≤ length vertices
+    vertices-fit : (r : PartRoom kind t s nameCount l words vertices) → l .last + vertexTotal (polygons-in r .of .0) ≤ length vertices
     unfolding heldAfter
     vertices-fit r =
         let ps = polygons-in r .of .0 in

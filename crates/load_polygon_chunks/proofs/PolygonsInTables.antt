@@ -4,38 +4,27 @@ use mathlib.Core.List.{List, [], _∷_, _++_, map}
 use Prim.Native.Nat.{ℕ, _+_, _*_, _≤_}
 use native.Mathlib.Omega.{arith}
 use lib.ListN.{length, length-append, length-map}
-use Rattle.format.specs.Bytes.{sum, joined}
+use Rattle.format.specs.Bytes.{joined}
 use Rattle.format.specs.Items.{Verdict, fine}
 use Rattle.format.specs.Mesh.{Polygon, polygonWords, polygonSize}
 use Rattle.format.specs.Bodies.{Part, tagging}
 use Rattle.format.specs.Rules.{from, tagged}
-use Rattle.format.specs.Contracts.{Put}
+use Rattle.format.specs.Contracts.{Put, polygonsWords, polygonsVertices, vertexTotal}
 use Rattle.format.proofs.Puts.{joined-map-append, total-append, put-none, put-length, put-append}
 use Rattle.load_vertices.specs.declared.Ends.{Ends}
-use Rattle.load_polygons.specs.Contracts.{vertexCount, PolygonsStored}
-use Rattle.load_taggings.specs.Contracts.{wordsOf, TagsPut}
-use Rattle.load_polygon_chunks.specs.Contracts.{verticesOf}
+use Rattle.load_polygons.specs.Contracts.{PolygonsStored}
+use Rattle.load_taggings.specs.Contracts.{TagsPut}
 use Rattle.load_polygon_chunks.specs.Held.{AllStored}
-use Rattle.format.proofs.Tagging.{tagged-vertices, tagged-length, from-counts}
-use Rattle.load_taggings.proofs.PutTaggings.{words-size}
+use Rattle.format.proofs.Tagging.{tagged-vertices, tagged-length}
+use Rattle.format.proofs.PolygonTables.{words-length, words-from, vertices-from}
 use Rattle.load_taggings.proofs.SplitPut.{tags-behind}
-
--- ---- vertices
-
-pub vertices-size : (ps : List Polygon) → length (verticesOf ps) ≡ vertexCount ps
-unfolding joined sum
-vertices-size [] = refl
-vertices-size (p ∷ ps) = omega (arith, length-append (p .vertices) (verticesOf ps), vertices-size ps)
-
-pub vertices-from : (base : ℕ) (ps : List Polygon) → length (verticesOf (map (from base) ps)) ≡ vertexCount ps
-vertices-from base ps = vertices-size (map (from base) ps) ∙ from-counts base ps
 
 -- tags change no vertices, and no lengths
 module _ (earlier latest : List Polygon) (type : ℕ) (ts : List (ℕ × ℕ)) where
-  pub same-vertices : verticesOf (earlier ++ tagged latest type ts) ≡ verticesOf (earlier ++ latest)
+  pub same-vertices : polygonsVertices (earlier ++ tagged latest type ts) ≡ polygonsVertices (earlier ++ latest)
   same-vertices =
       joined-map-append (λ p. p .vertices) earlier (tagged latest type ts)
-      ∙ ap (λ vs. verticesOf earlier ++ joined vs) (tagged-vertices type ts latest)
+      ∙ ap (λ vs. polygonsVertices earlier ++ joined vs) (tagged-vertices type ts latest)
       ∙ sym (joined-map-append (λ p. p .vertices) earlier latest)
 
   pub same-length : length (earlier ++ tagged latest type ts) ≡ length (earlier ++ latest)
@@ -64,15 +53,15 @@ stored-none words vertices = record {
 
 module _ {earlier latest : List Polygon} {start end last : ℕ} {words₀ words vertices₀ vertices : List ℕ} (w : AllStored earlier latest start end last words₀ words vertices₀ vertices) where
   pub stored-more : {base : ℕ} (ps : List Polygon) {words′ vertices′ : List ℕ} {ends : Ends} → PolygonsStored base ps words end words′ vertices last vertices′ ends
-      → end + length ps * polygonSize ≤ length words → last + vertexCount ps ≤ length vertices
+      → end + length ps * polygonSize ≤ length words → last + vertexTotal ps ≤ length vertices
       → AllStored (earlier ++ latest) (map (from base) ps) end (ends .polygons) (ends .vertices) words₀ words′ vertices₀ vertices′
   stored-more {base} ps {words′} {vertices′} q words-fit vertices-fit =
       let new = map (from base) ps in
       let many : length new ≡ length ps = length-map ps (from base) in
-      let total : length (verticesOf new) ≡ vertexCount ps = vertices-from base ps in
-      let long : length (wordsOf new) ≡ length ps * polygonSize = words-size new ∙ ap (λ n. n * polygonSize) many in
+      let total : length (polygonsVertices new) ≡ vertexTotal ps = vertices-from base ps in
+      let long : length (polygonsWords new) ≡ length ps * polygonSize = words-from base ps in
       let start-is : end ≡ length (earlier ++ latest) * polygonSize = omega (arith, w .start-is, w .end-is, length-append earlier latest) in
-      let words-here : end ≡ length (wordsOf (earlier ++ latest)) = omega (arith, start-is, words-size (earlier ++ latest)) in
+      let words-here : end ≡ length (polygonsWords (earlier ++ latest)) = omega (arith, start-is, words-length (earlier ++ latest)) in
       record {
         start-is = start-is;
         end-is = omega (arith, q .words-end, many);
@@ -89,8 +78,8 @@ module _ {earlier latest : List Polygon} {start end last : ℕ} {words₀ words 
       → AllStored earlier (tagged latest type ts) start end last words₀ words′ vertices₀ vertices
   stored-tagged type ts {v} {words′} q e fits =
       let here : start ≡ 0 + length earlier * polygonSize = omega (arith, w .start-is) in
-      let long : length (wordsOf (earlier ++ latest)) ≡ (length earlier + length latest) * polygonSize = words-size (earlier ++ latest) ∙ ap (λ n. n * polygonSize) (length-append earlier latest) in
-      let room : 0 + length (wordsOf (earlier ++ latest)) ≤ length words₀ = omega (arith, long, here, fits, w .kept-words) in
+      let long : length (polygonsWords (earlier ++ latest)) ≡ (length earlier + length latest) * polygonSize = words-length (earlier ++ latest) ∙ ap (λ n. n * polygonSize) (length-append earlier latest) in
+      let room : 0 + length (polygonsWords (earlier ++ latest)) ≤ length words₀ = omega (arith, long, here, fits, w .kept-words) in
       let put = tags-behind earlier latest type ts (w .put-words) room (subst (λ k. TagsPut v (length latest) words k words′) here q) e in
       record {
         start-is = w .start-is;
@@ -98,6 +87,6 @@ module _ {earlier latest : List Polygon} {start end last : ℕ} {words₀ words 
         last-is = rw (same-vertices earlier latest type ts) (w .last-is);
         put-words = put;
         put-vertices = rw (same-vertices earlier latest type ts) (w .put-vertices);
-        kept-words = put-length put (omega (arith, room, words-size (earlier ++ latest), words-size (earlier ++ tagged latest type ts), same-length earlier latest type ts));
+        kept-words = put-length put (omega (arith, room, words-length (earlier ++ latest), words-length (earlier ++ tagged latest type ts), same-length earlier latest type ts));
         kept-vertices = w .kept-vertices;
       }

@@ -12,7 +12,7 @@ use Rattle.format.specs.Chunks.{chunks}
 use Rattle.format.specs.Mesh.{Polygon, Name}
 use Rattle.format.specs.Bodies.{Part, pointList, nameList, polygonList, tagging, surface, skippedChunk}
 use Rattle.format.specs.Rules.{added, Before, after, judge, count, from, polygonsIn}
-use Rattle.format.specs.Contracts.{FilePut, allNames}
+use Rattle.format.specs.Contracts.{FilePut, allNames, polygonsVertices}
 use Rattle.format.proofs.Verdicts.{same-fine}
 use Rattle.format.proofs.SizeBound.{things, chunk-bound}
 use Rattle.format.proofs.OneNameList.{no-more-names, first-names}
@@ -24,7 +24,7 @@ use Rattle.wire.proofs.ChunkInFile.{long}
 use Rattle.wire.proofs.FileWalk as walk
 use Rattle.wire.proofs.FileWalk.{WalkedTo, ChunkHere, none-left, after-chunk}
 use Rattle.load_polygon_chunks.specs.declared.polygons.Latest.{Latest}
-use Rattle.load_polygon_chunks.specs.Contracts.{allPolygons, verticesOf, filePolygons, fileVertices, FilePolygonsRoom}
+use Rattle.load_polygon_chunks.specs.Contracts.{allPolygons, filePolygons, fileVertices, FilePolygonsRoom}
 use Rattle.load_polygon_chunks.specs.Held.{Held, nothingHeld, endOf, heldPolygons, heldAfter, nothingLatest, HeldStored, PartRoom, PartPut}
 use Rattle.load_polygon_chunks.proofs.PolygonsInTables.{same-vertices, same-length, stored-none}
 
@@ -55,7 +55,7 @@ same-before h skippedChunk = refl
 
 record Fewer (ps qs : List Polygon) : Type 0 where
   polygons : length ps ≤ length qs
-  vertices : length (verticesOf ps) ≤ length (verticesOf qs)
+  vertices : length (polygonsVertices ps) ≤ length (polygonsVertices qs)
 
 fewer-part : (h : Held) (part : Part) → Fewer (heldPolygons h) (heldPolygons (heldAfter h part))
 unfolding heldAfter
@@ -78,7 +78,7 @@ fewer (part ∷ more) h =
     let f = fewer-part h part in
     let g = fewer more (heldAfter h part) in
     let e = one-part h part more in
-    record { polygons = omega (arith, f .polygons, g .polygons, ap length e); vertices = omega (arith, f .vertices, g .vertices, ap (λ ps. length (verticesOf ps)) e) }
+    record { polygons = omega (arith, f .polygons, g .polygons, ap length e); vertices = omega (arith, f .vertices, g .vertices, ap (λ ps. length (polygonsVertices ps)) e) }
 
 -- ---- points and names
 
@@ -190,7 +190,7 @@ module _ {kind : Kind} {file : List ℕ} {nameCount : ℕ} {words₀ vertices₀
           all-names = all-names;
           few = omega (arith, later-few, h .inside, f .room .few);
           words-fit = omega (arith, w .polygons, ap length later-all, f .room .words-fit, f .held-stored .stored .kept-words);
-          vertices-fit = omega (arith, w .vertices, ap (λ ps. length (verticesOf ps)) later-all, f .room .vertices-fit, f .held-stored .stored .kept-vertices);
+          vertices-fit = omega (arith, w .vertices, ap (λ ps. length (polygonsVertices ps)) later-all, f .room .vertices-fit, f .held-stored .stored .kept-vertices);
         }
 
     pub turn : {words′ vertices′ : List ℕ} {l′ : Latest} → PartPut kind tag lent nameCount l words words′ vertices vertices′ l′

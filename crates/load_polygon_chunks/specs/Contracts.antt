@@ -1,28 +1,24 @@
 -- The polygons of a file, and the words that they are in the two tables.
 use Prim.Native.Nat.{ℕ, _*_, _≤_}
 use mathlib.Core.Path.{_≡_}
-use mathlib.Core.List.{List, [], map}
+use mathlib.Core.List.{List, []}
 use lib.ListN.{length}
 use Rattle.format.specs.declared.Kind.{Kind}
-use Rattle.format.specs.Bytes.{joined}
 use Rattle.format.specs.Limits.{fileLimit}
 use Rattle.format.specs.Items.{fine}
-use Rattle.format.specs.Mesh.{Polygon, polygonWords, polygonSize}
+use Rattle.format.specs.Mesh.{Polygon, polygonSize}
 use Rattle.format.specs.Bodies.{Part}
 use Rattle.format.specs.Rules.{polygonsIn}
-use Rattle.format.specs.Contracts.{fileParts, allNames}
+use Rattle.format.specs.Contracts.{fileParts, allNames, polygonsWords, polygonsVertices}
 
 abbrev pub allPolygons : List Part → List Polygon
 allPolygons parts = polygonsIn 0 0 [] parts
 
-abbrev pub verticesOf : List Polygon → List ℕ
-verticesOf ps = joined (map (λ p. p .vertices) ps)
-
 abbrev pub filePolygons : List Part → List ℕ
-filePolygons parts = joined (map polygonWords (allPolygons parts))
+filePolygons parts = polygonsWords (allPolygons parts)
 
 abbrev pub fileVertices : List Part → List ℕ
-fileVertices parts = verticesOf (allPolygons parts)
+fileVertices parts = polygonsVertices (allPolygons parts)
 
 -- the file was judged fine and has so many names, and the tables have room for its polygons
 pub record FilePolygonsRoom (kind : Kind) (file : List ℕ) (nameCount : ℕ) (words vertices : List ℕ) : Type 0 where

@@ -5,16 +5,14 @@ use mathlib.Core.List.{List, [], _++_, map}
 use mathlib.Core.Option.{some}
 use lib.ListN.{length, drop}
 use Rattle.format.specs.declared.Kind.{Kind}
-use Rattle.format.specs.Bytes.{joined}
 use Rattle.format.specs.Limits.{fileLimit}
 use Rattle.format.specs.Items.{fine}
-use Rattle.format.specs.Mesh.{Polygon, polygonWords, polygonSize}
+use Rattle.format.specs.Mesh.{Polygon, polygonSize}
 use Rattle.format.specs.Bodies.{Part, pointList, nameList, polygonList, tagging, surface, skippedChunk}
 use Rattle.format.specs.Rules.{Before, start, after, count, judge, from, tagged}
-use Rattle.format.specs.Contracts.{Put}
+use Rattle.format.specs.Contracts.{Put, polygonsWords, polygonsVertices}
 use Rattle.load_vertices.specs.declared.Ends.{Ends}
 use Rattle.load_polygon_chunks.specs.declared.polygons.Latest.{Latest}
-use Rattle.load_polygon_chunks.specs.Contracts.{verticesOf}
 
 -- ---- the parts so far
 
@@ -63,9 +61,9 @@ withPolygons l e = record { base = l .base; points = l .points; names = l .names
 pub record AllStored (earlier latest : List Polygon) (start end last : ℕ) (words₀ words vertices₀ vertices : List ℕ) : Type 0 where
   pub start-is : start ≡ length earlier * polygonSize
   pub end-is : end ≡ start + length latest * polygonSize
-  pub last-is : last ≡ length (verticesOf (earlier ++ latest))
-  pub put-words : Put words₀ 0 (joined (map polygonWords (earlier ++ latest))) words
-  pub put-vertices : Put vertices₀ 0 (verticesOf (earlier ++ latest)) vertices
+  pub last-is : last ≡ length (polygonsVertices (earlier ++ latest))
+  pub put-words : Put words₀ 0 (polygonsWords (earlier ++ latest)) words
+  pub put-vertices : Put vertices₀ 0 (polygonsVertices (earlier ++ latest)) vertices
   pub kept-words : length words ≡ length words₀
   pub kept-vertices : length vertices ≡ length vertices₀
 
@@ -90,7 +88,7 @@ pub record PartRoom (kind : Kind) (tag : ℕ) (s : List ℕ) (nameCount : ℕ) (
   pub all-names : (n : ℕ) → heldAfter held part .before .names ≡ some n → n ≡ nameCount
   pub few : endOf (heldAfter held part) ≤ fileLimit
   pub words-fit : length (heldPolygons (heldAfter held part)) * polygonSize ≤ length words
-  pub vertices-fit : length (verticesOf (heldPolygons (heldAfter held part))) ≤ length vertices
+  pub vertices-fit : length (polygonsVertices (heldPolygons (heldAfter held part))) ≤ length vertices
 
 -- whatever polygons stood in the tables, they stand there with those of the chunk
 pub record PartPut (kind : Kind) (tag : ℕ) (s : List ℕ) (nameCount : ℕ) (l : Latest) (words words′ vertices vertices′ : List ℕ) (l′ : Latest) : Type 0 where

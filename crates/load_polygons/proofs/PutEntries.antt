@@ -8,40 +8,27 @@ use Rattle.format.specs.declared.Fault.the-variants.{ItemCut}
 use Rattle.format.specs.Bytes.{sum, joined}
 use Rattle.format.specs.Items.{_andThen_, Verdict, fault, Got, whole, u4}
 use Rattle.format.specs.Mesh.{Polygon, polygonWords, polygonSize}
-use Rattle.format.specs.Bodies.{Part, pointList, nameList, polygonList, tagging, surface, skippedChunk, polygonKind, polygonsBody}
+use Rattle.format.specs.Bodies.{Part, polygonList, polygonKind, polygonsBody}
 use Rattle.format.specs.Rules.{from}
-use Rattle.format.specs.Contracts.{keep, got, itself, Says, Succeeds, Put}
+use Rattle.format.specs.Contracts.{keep, got, itself, Says, Succeeds, Put, polygonsListed, polygonsWords, polygonsVertices, vertexTotal}
 use Rattle.format.proofs.ReaderSteps.{exactly, stopped, cut}
 use Rattle.format.proofs.Entries.{ManyLoop, many-begin, many-turn, many-end}
 use Rattle.format.proofs.Inversion.{Entry, many-sound, sound-whole, sound-not, sound-first, sound-good, then-at}
+use Rattle.format.proofs.Facts.{sum-map-append}
+use Rattle.format.proofs.PolygonTables.{words-from, vertices-from}
 use Rattle.format.proofs.Puts.{joined-append, put-none, put-length, put-append}
-use Rattle.validate_polygons.specs.declared.entries.Layout.{Layout}
-use Rattle.validate_polygons.specs.Contracts.{EntryOf, entryOf, partOf, entriesOf}
+use Rattle.polygon_layouts.specs.declared.Layout.{Layout}
+use Rattle.polygon_layouts.specs.Layouts.{EntryOf, entryOf, partOf, entriesOf}
 use Rattle.load_vertices.specs.declared.Lists.{Lists}
 use Rattle.load_vertices.specs.declared.Ends.{Ends}
 use Rattle.load_vertices.specs.Contracts.{above, EntryPut}
-use Rattle.load_polygons.specs.Contracts.{heldBy, RoomIn, vertexCount, PolygonsRoom, PolygonsStored, PolygonsPut, BodyRoom, BodyPut}
+use Rattle.load_polygons.specs.Contracts.{heldBy, RoomIn, PolygonsRoom, PolygonsStored, PolygonsPut, BodyRoom, BodyPut}
 use Rattle.load_vertices.proofs.PutVertices.{above-length}
 use Rattle.format.proofs.Verdicts.{same-fine}
 
 -- ---- polygons that stand in the tables, and one more
 
-count-append : (ps qs : List Polygon) → vertexCount (ps ++ qs) ≡ vertexCount ps + vertexCount qs
-unfolding sum
-count-append [] qs = omega arith
-count-append (p ∷ ps) qs = let e = count-append ps qs in omega arith
-
 module _ (base : ℕ) where
-  words-length : (ps : List Polygon) → length (joined (map polygonWords (map (from base) ps))) ≡ length ps * polygonSize
-  unfolding joined
-  words-length [] = refl
-  words-length (p ∷ ps) = let e = words-length ps in omega arith
-
-  vertices-length : (ps : List Polygon) → length (joined (map (λ p. p .vertices) (map (from base) ps))) ≡ vertexCount ps
-  unfolding joined sum
-  vertices-length [] = refl
-  vertices-length (p ∷ ps) = length-append (above base (p .vertices)) _ ∙ (let e = vertices-length ps in let a = above-length base (p .vertices) in omega arith)
-
   joined-more : (f : Polygon → List ℕ) (ps : List Polygon) (p : Polygon)
       → joined (map f (map (from base) ps)) ++ f (from base p) ≡ joined (map f (map (from base) (ps ++ (p ∷ []))))
   unfolding joined
@@ -69,29 +56,21 @@ module _ {base : ℕ} {ps : List Polygon} {words₀ : List ℕ} {i₀ : ℕ} {wo
       → PolygonsStored base (ps ++ (p ∷ [])) words₀ i₀ words′ vertices₀ m₀ vertices′ (record { polygons = e .polygons + polygonSize; vertices = e .vertices + many })
   unfolding sum
   stored-more p {many = many} q r count room room′ =
-      let here : e .polygons ≡ i₀ + length (joined (map polygonWords (map (from base) ps))) = w .words-end ∙ ap (λ k. i₀ + k) (sym (words-length base ps)) in
+      let here : e .polygons ≡ i₀ + length (joined (map polygonWords (map (from base) ps))) = w .words-end ∙ ap (λ k. i₀ + k) (sym (words-from base ps)) in
       let there : e .vertices ≡ m₀ + length (joined (map (λ p. p .vertices) (map (from base) ps)))
-      = w .vertices-end ∙ ap (λ k. m₀ + k) (sym (vertices-length base ps)) in
+      = w .vertices-end ∙ ap (λ k. m₀ + k) (sym (vertices-from base ps)) in
       record {
         put-words = rw (← joined-more base polygonWords ps p) (put-append (w .put-words) (rw here at q) (omega (arith, here)));
         put-vertices = rw (← joined-more base (λ p. p .vertices) ps p)
             (put-append (w .put-vertices) (rw there at r) (omega (arith, there, above-length base (p .vertices))));
         words-end = omega (arith, w .words-end, length-append ps (p ∷ []));
-        vertices-end = omega (arith, w .vertices-end, count-append ps (p ∷ []));
+        vertices-end = omega (arith, w .vertices-end, sum-map-append (λ (p : Polygon). length (p .vertices)) ps (p ∷ []));
       }
 
 -- ---- the entries of a body
 
-unfoldable listedIn : Part → List Polygon
-listedIn (pointList ps) = []
-listedIn (nameList ns) = []
-listedIn (polygonList ps n) = ps
-listedIn (tagging t ts) = []
-listedIn (surface s) = []
-listedIn skippedChunk = []
-
-listed-held : (l : Layout) (xs : List (EntryOf l)) → listedIn (partOf l xs) ≡ map (heldBy l) xs
-unfolding listedIn
+listed-held : (l : Layout) (xs : List (EntryOf l)) → polygonsListed (partOf l xs) ≡ map (heldBy l) xs
+unfolding polygonsListed
 listed-held Layout.Faces xs = refl
 listed-held Layout.Patches xs = sym (map-id xs)
 listed-held (Layout.Polygons kind) xs = sym (map-id xs)
@@ -112,17 +91,17 @@ pub record EntriesStored (layout : Layout) (l : Lists) (e₀ : Ends) (s : List �
 module _ (layout : Layout) (l : Lists) {e₀ : Ends} {s : List ℕ} {from : ℕ} {words₀ vertices₀ : List ℕ} where
   pub entries-begin : BodyRoom (entriesOf layout (l .points) (l .names)) l e₀ s from words₀ vertices₀
       → EntriesStored layout l e₀ s from words₀ vertices₀ words₀ vertices₀ from e₀
-  unfolding _andThen_ listedIn
+  unfolding _andThen_ polygonsListed
   entries-begin r =
       let u = sound-whole (entriesOf layout (l .points) (l .names)) 0 from (drop from s) (record { value = _; is = r .sound }) in
       let part : u .got .value ≡ polygonList (r .listed) (r .details) = same-fine (sym (u .so) ∙ r .sound) in
       record {
         room = r;
         done = [];
-        goal = keep listedIn (entriesOf layout (l .points) (l .names) from (drop from s));
-        sound = record { value = record { value = listedIn (u .got .value); next = u .got .next; left = u .got .left }; is = rw (u .is) };
-        all = ap listedIn part;
-        rest = many-begin (partOf layout) listedIn (λ xs. map (heldBy layout) xs) (listed-held layout);
+        goal = keep polygonsListed (entriesOf layout (l .points) (l .names) from (drop from s));
+        sound = record { value = record { value = polygonsListed (u .got .value); next = u .got .next; left = u .got .left }; is = rw (u .is) };
+        all = ap polygonsListed part;
+        rest = many-begin (partOf layout) polygonsListed (λ xs. map (heldBy layout) xs) (listed-held layout);
         kept-words = refl;
         kept-vertices = refl;
         stored = stored-none words₀ vertices₀ e₀;
@@ -158,8 +137,8 @@ module _ {layout : Layout} {l : Lists} {e₀ : Ends} {s : List ℕ} {from : ℕ}
           words-fit = omega (arith, ap length parts, length-append (f .done) (p ∷ later), f .stored .words-end, f .room .words-fit, f .kept-words);
           vertices-fit = omega (
             arith,
-            ap vertexCount parts,
-            count-append (f .done) (p ∷ later),
+            ap vertexTotal parts,
+            sum-map-append (λ (p : Polygon). length (p .vertices)) (f .done) (p ∷ later),
             f .stored .vertices-end,
             f .room .vertices-fit,
             f .kept-vertices,

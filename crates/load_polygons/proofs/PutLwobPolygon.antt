@@ -18,8 +18,8 @@ use Rattle.format.proofs.Inversion.{sound-first, sound-next, sound-good}
 use Rattle.format.proofs.Verdicts.{same-fine, then-fine, chosen}
 use Rattle.wire.specs.Contracts.{signedSurfaceOf}
 use Rattle.wire.proofs.ReadAgain.{never}
-use Rattle.validate_details.specs.Contracts.{detailsIf}
-use Rattle.validate_details.proofs.DetailsBySign.{by-sign}
+use Rattle.polygon_details.specs.Contracts.{detailsIf}
+use Rattle.polygon_details.proofs.DetailsBySign.{by-sign}
 use Rattle.load_vertices.specs.declared.Lists.{Lists}
 use Rattle.load_vertices.specs.declared.Ends.{Ends}
 use Rattle.load_vertices.specs.declared.lwob_entry.LwobEntryStored.{LwobEntryStored}

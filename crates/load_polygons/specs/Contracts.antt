@@ -3,14 +3,13 @@ use Prim.Native.Nat.{ℕ, _+_, _*_, _^_, _≤_}
 use mathlib.Core.Path.{_≡_}
 use mathlib.Core.List.{List, map}
 use lib.ListN.{length, drop}
-use Rattle.format.specs.Bytes.{sum, joined}
 use Rattle.format.specs.Items.{fine, Reader, whole}
-use Rattle.format.specs.Mesh.{Polygon, polygonWords, polygonSize}
+use Rattle.format.specs.Mesh.{Polygon, polygonSize}
 use Rattle.format.specs.Bodies.{Part, polygonList}
 use Rattle.format.specs.Rules.{from}
-use Rattle.format.specs.Contracts.{itself, Put}
-use Rattle.validate_polygons.specs.declared.entries.Layout.{Layout}
-use Rattle.validate_polygons.specs.Contracts.{EntryOf, entryOf}
+use Rattle.format.specs.Contracts.{itself, Put, polygonsWords, polygonsVertices, vertexTotal}
+use Rattle.polygon_layouts.specs.declared.Layout.{Layout}
+use Rattle.polygon_layouts.specs.Layouts.{EntryOf, entryOf}
 use Rattle.load_vertices.specs.declared.Lists.{Lists}
 use Rattle.load_vertices.specs.declared.Ends.{Ends}
 use Rattle.load_vertices.specs.Contracts.{EntryRoom, EntryPut}
@@ -35,24 +34,21 @@ PutIn layout l e s at words words′ vertices vertices′ answer =
 
 -- ---- a body
 
-abbrev pub vertexCount : List Polygon → ℕ
-vertexCount ps = sum (map (λ p. length (p .vertices)) ps)
-
 -- the body from the place `start` to its end is fine, and the tables have room for its polygons
 pub record PolygonsRoom (body : Reader Part) (points base : ℕ) (s : List ℕ) (start : ℕ) (words : List ℕ) (i : ℕ) (vertices : List ℕ) (m : ℕ) : Type 0 where
   pub listed : List Polygon
   pub details : ℕ
   pub sound : whole 0 body start (drop start s) ≡ fine (polygonList listed details)
   pub words-fit : i + length listed * polygonSize ≤ length words
-  pub vertices-fit : m + vertexCount listed ≤ length vertices
+  pub vertices-fit : m + vertexTotal listed ≤ length vertices
   pub small : base + points ≤ 2 ^ 32
 
 -- the words of the polygons stand from the index i on, and their vertices from the index m on, each up to its end
 pub record PolygonsStored (base : ℕ) (ps : List Polygon) (words : List ℕ) (i : ℕ) (words′ vertices : List ℕ) (m : ℕ) (vertices′ : List ℕ) (ends : Ends) : Type 0 where
-  pub put-words : Put words i (joined (map polygonWords (map (from base) ps))) words′
-  pub put-vertices : Put vertices m (joined (map (λ p. p .vertices) (map (from base) ps))) vertices′
+  pub put-words : Put words i (polygonsWords (map (from base) ps)) words′
+  pub put-vertices : Put vertices m (polygonsVertices (map (from base) ps)) vertices′
   pub words-end : ends .polygons ≡ i + length ps * polygonSize
-  pub vertices-end : ends .vertices ≡ m + vertexCount ps
+  pub vertices-end : ends .vertices ≡ m + vertexTotal ps
 
 -- they do, whatever polygons the specification says that the body holds
 pub record PolygonsPut (body : Reader Part) (base : ℕ) (s : List ℕ) (start : ℕ) (words : List ℕ) (i : ℕ) (words′ vertices : List ℕ) (m : ℕ)

@@ -1,5 +1,5 @@
 // The polygons of a body into the tables of polygons and of vertices, whatever the layout of its entries.
-ghost use Rattle.validate_polygons.specs.Contracts.{entriesOf};
+ghost use Rattle.polygon_layouts.specs.Layouts.{entriesOf};
 ghost use Rattle.load_polygons.specs.Contracts.{RoomIn, PutIn, BodyRoom, BodyPut};
 use crate::faces::put_face;
 use crate::patches::put_patch;
@@ -7,7 +7,7 @@ use crate::polygons::put_polygon;
 use format::POLYGON_WORDS;
 use load_vertices::Ends;
 use load_vertices::Lists;
-use validate_polygons::entries::Layout;
+use polygon_layouts::Layout;
 use wire::cursor::Cursor;
 
 // A polygon that was put: the cursor after it, and how many vertices it has.

@@ -1,14 +1,14 @@
 // The faces of a POLS body of an LWOB file into the tables of polygons and of vertices.
 ghost use Rattle.format.specs.Bodies.{facesBody};
-ghost use Rattle.validate_polygons.specs.declared.entries.Layout.{Layout};
+ghost use Rattle.polygon_layouts.specs.declared.Layout.{Layout};
 ghost use Rattle.load_polygons.specs.Contracts.{RoomIn, PutIn, BodyRoom, BodyPut};
 use crate::entries::PolygonStored;
 use crate::entries::put_entries;
 use load_vertices::Ends;
 use load_vertices::Lists;
 use load_vertices::lwob_entry::put_lwob_entry;
-use validate_details::details::details_after;
-use validate_polygons::entries::Layout;
+use polygon_details::details::details_after;
+use polygon_layouts::Layout;
 use wire::Run;
 use wire::cursor::Cursor;
 

@@ -1,13 +1,13 @@
 // The patches of a PCHS body into the tables of polygons and of vertices.
 ghost use Rattle.format.specs.Bodies.{patchesBody};
-ghost use Rattle.validate_polygons.specs.declared.entries.Layout.{Layout};
+ghost use Rattle.polygon_layouts.specs.declared.Layout.{Layout};
 ghost use Rattle.load_polygons.specs.Contracts.{RoomIn, PutIn, BodyRoom, BodyPut};
 use crate::entries::PolygonStored;
 use crate::entries::put_entries;
 use load_vertices::Ends;
 use load_vertices::Lists;
 use load_vertices::lwob_entry::put_lwob_entry;
-use validate_polygons::entries::Layout;
+use polygon_layouts::Layout;
 use wire::cursor::Cursor;
 
 // A patch. Its surface number was judged not to be negative, so that no details follow it.

@@ -1,15 +1,15 @@
 // The polygons of a POLS body of an LWO2 file into the tables of polygons and of vertices.
 ghost use Rattle.format.specs.Bodies.{polygonsBody};
-ghost use Rattle.validate_polygons.specs.declared.entries.Layout.{Layout};
+ghost use Rattle.polygon_layouts.specs.declared.Layout.{Layout};
 ghost use Rattle.load_polygons.specs.Contracts.{RoomIn, PutIn, BodyRoom, BodyPut};
 use crate::entries::PolygonStored;
 use crate::entries::put_entries;
 use load_vertices::Ends;
 use load_vertices::Lists;
 use load_vertices::vertices::put_vx_vertices;
-use load_vertices::words::put_words;
-use validate_polygons::entries::Layout;
-use validate_polygons::polygons::polygon_kind;
+use load_vertices::words::put_polygon_words;
+use polygon_layouts::Layout;
+use polygon_layouts::polygon_kind;
 use wire::cursor::Cursor;
 use wire::cursor::Number;
 
@@ -33,7 +33,7 @@ pub fn put_polygon(
         };
     };
     let count = n % 1024;
-    put_words(polygons, ends.polygons, kind, count, 0);
+    put_polygon_words(polygons, ends.polygons, kind, count, 0);
     let next = put_vx_vertices(s, first, count as usize, lists, vertices, ends.vertices);
     PolygonStored {
         next,

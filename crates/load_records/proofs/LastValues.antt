@@ -12,7 +12,7 @@ use Rattle.format.specs.declared.Container.{Container}
 use Rattle.format.specs.declared.Container.the-variants.{Surf, Blok}
 use Rattle.format.specs.declared.Fault.{Fault}
 use Rattle.format.specs.declared.Fault.the-variants.{WrongLength, SurfaceValue}
-use Rattle.format.specs.Bytes.{if_then_else_, _is_, spelt, number, joined, empty}
+use Rattle.format.specs.Bytes.{if_then_else_, tagNumber, _is_, number, joined, empty}
 use Rattle.format.specs.Items.{Verdict, fine, fault, Got, _andThen_, _>>=_, give, Reader, whole}
 use Rattle.format.specs.Chunks.{headerOf, chunkOf, sub, unjudged}
 use Rattle.format.specs.Surfaces.{Value as Words, lwo2Value, valueOf, block, held, nested, surfaceDepth}
@@ -51,7 +51,7 @@ module _ (inner : Container → Reader (List Words)) (head at : ℕ) (b : List �
   value-alone LWOB t e = e
   value-alone LWO2 t {vs} e = by (t is "BLOK") refl e
     where
-      none : t ≡ number (spelt "BLOK") → whole head (lwo2Value t) at b ≡ fine []
+      none : t ≡ tagNumber "BLOK" → whole head (lwo2Value t) at b ≡ fine []
       none q = rw q
 
       by : (u : Bool) → t is "BLOK" ≡ u → whole head (if u then block inner else lwo2Value t) at b ≡ fine vs → whole head (lwo2Value t) at b ≡ fine vs

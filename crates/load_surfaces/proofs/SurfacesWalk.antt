@@ -10,13 +10,13 @@ use lib.Seq.{take-at, drop-at}
 use Rattle.format.specs.declared.Kind.{Kind}
 use Rattle.format.specs.Bytes.{if_then_else_, sum, joined, same}
 use Rattle.format.specs.Items.{fine}
-use Rattle.format.specs.Mesh.{Name, Surface, missing, surfaceWords}
+use Rattle.format.specs.Mesh.{Name, Surface, missing, surfaceWords, recordSize}
 use Rattle.format.specs.Surfaces.{recordOf}
 use Rattle.format.specs.Bodies.{Part, SurfaceChunk}
 use Rattle.format.specs.Rules.{surfacesOf, standing, recordFor}
 use Rattle.format.specs.Written.{pieces}
 use Rattle.format.specs.Contracts.{Put, fileParts, FilePut, allNames}
-use Rattle.format.proofs.Facts.{length-entries, length-joined}
+use Rattle.format.proofs.Facts.{length-each, length-joined}
 use Rattle.format.proofs.Indexed.{pieces-back}
 use Rattle.format.proofs.Puts.{joined-map-append}
 use Rattle.format.proofs.Verdicts.{same-fine}
@@ -51,13 +51,13 @@ module _ {kind : Kind} {file : List ℕ} {count : ℕ} {lengths bytes records : 
 abbrev recordWords : (Name → Surface) → List Name → List ℕ
 recordWords of ns = joined (map surfaceWords (map of ns))
 
-words-length : (of : Name → Surface) (ns : List Name) → length (recordWords of ns) ≡ length ns * 10
-words-length of ns = length-entries 10 surfaceWords (λ s. refl) (map of ns) ∙ ap (λ n. n * 10) (length-map ns of)
+words-length : (of : Name → Surface) (ns : List Name) → length (recordWords of ns) ≡ length ns * recordSize
+words-length of ns = length-each recordSize surfaceWords (λ s. refl) (map of ns) ∙ ap (λ n. n * recordSize) (length-map ns of)
 
-words-put : (of : Name → Surface) (ns : List Name) {count : ℕ} {table table′ : List ℕ} → count ≡ length ns → table′ ≡ recordWords of ns ++ drop (count * 10) table
+words-put : (of : Name → Surface) (ns : List Name) {count : ℕ} {table table′ : List ℕ} → count ≡ length ns → table′ ≡ recordWords of ns ++ drop (count * recordSize) table
     → Put table 0 (recordWords of ns) table′
 words-put of ns {count} many e =
-    let l : 0 + length (recordWords of ns) ≡ count * 10 = omega (arith, words-length of ns, many) in
+    let l : 0 + length (recordWords of ns) ≡ count * recordSize = omega (arith, words-length of ns, many) in
     record { put = e ∙ rw l refl }
 
 words-same : {f g : Name → Surface} → ((n : Name) → f n ≡ g n) → (ns : List Name) → recordWords f ns ≡ recordWords g ns
@@ -122,17 +122,17 @@ after-one kind done part n =
 -- ---- the records before the first SURF
 
 module _ (ns : List Name) {count : ℕ} {entry records : List ℕ} (many : count ≡ length ns) (p : Put entry 0 (joined (map surfaceWords (replicate count missing))) records) where
-  long : length (recordWords (λ n. missing) ns) ≡ count * 10
+  long : length (recordWords (λ n. missing) ns) ≡ count * recordSize
   long = omega (arith, words-length (λ n. missing) ns, many)
 
-  all-missing : records ≡ recordWords (λ n. missing) ns ++ drop (count * 10) entry
+  all-missing : records ≡ recordWords (λ n. missing) ns ++ drop (count * recordSize) entry
   all-missing =
       let w : joined (map surfaceWords (replicate count missing)) ≡ recordWords (λ n. missing) ns = rw many (words-missing ns) in
-      let l : 0 + length (recordWords (λ n. missing) ns) ≡ count * 10 = omega (arith, long) in
+      let l : 0 + length (recordWords (λ n. missing) ns) ≡ count * recordSize = omega (arith, long) in
       p .put ∙ rw (w, l)
 
-  rest-same : drop (count * 10) records ≡ drop (count * 10) entry
-  rest-same = rw all-missing (drop-at (recordWords (λ n. missing) ns) (drop (count * 10) entry) (count * 10) long)
+  rest-same : drop (count * recordSize) records ≡ drop (count * recordSize) entry
+  rest-same = rw all-missing (drop-at (recordWords (λ n. missing) ns) (drop (count * recordSize) entry) (count * recordSize) long)
 
 -- ---- the walk
 
@@ -143,8 +143,8 @@ pub record RecordsTo (kind : Kind) (file : List ℕ) (count : ℕ) (lengths byte
   pub names-held : Named count lengths bytes (allNames parts)
   pub done : List Part
   pub walked : WalkedTo kind file parts done at
-  pub fits : count * 10 ≤ length records₀
-  pub held : records ≡ recordWords (after kind done) (allNames parts) ++ drop (count * 10) records₀
+  pub fits : count * recordSize ≤ length records₀
+  pub held : records ≡ recordWords (after kind done) (allNames parts) ++ drop (count * recordSize) records₀
 
 pub all-missing-first : {kind : Kind} {file : List ℕ} {count : ℕ} {lengths bytes entry records : List ℕ} → RecordsRoom kind file count lengths bytes entry → length records ≡ length entry
     → Put entry 0 (joined (map surfaceWords (replicate count missing))) records → RecordsTo kind file count lengths bytes records 12 records
@@ -164,8 +164,8 @@ module _ {kind : Kind} {file : List ℕ} {count : ℕ} {lengths bytes records₀
   kept =
       let of = after kind (k .done) in
       let ns = allNames (k .parts) in
-      let l = length-append (recordWords of ns) (drop (count * 10) records₀) in
-      omega (arith, ap length (k .held), l, words-length of ns, length-drop (count * 10) records₀, k .names-held .many, k .fits)
+      let l = length-append (recordWords of ns) (drop (count * recordSize) records₀) in
+      omega (arith, ap length (k .held), l, words-length of ns, length-drop (count * recordSize) records₀, k .names-held .many, k .fits)
 
   pub listed-room : ListedRoom (take count lengths) bytes records
   listed-room = record { inside = k .names-held .inside; fits = omega (arith, length-take count lengths, k .fits, kept) }
@@ -181,7 +181,7 @@ module _ {kind : Kind} {file : List ℕ} {count : ℕ} {lengths bytes records₀
     fits = k .fits;
     held =
         let ns = allNames (k .parts) in
-        let rest = drop (count * 10) records₀ in
+        let rest = drop (count * recordSize) records₀ in
         p .put (k .walked .before) (t .part) (t .here)
         ∙ rw (k .names-held .cut, k .held) (surface-words kind ns rest (found (k .done)) (surfacesOf (t .part)))
         ∙ ap (λ ws. ws ++ rest) (words-same (after-one kind (k .done) (t .part)) ns);
@@ -190,5 +190,5 @@ module _ {kind : Kind} {file : List ℕ} {count : ℕ} {lengths bytes records₀
   pub all-stored : length file ≤ at → {entry : List ℕ} → Put entry 0 (joined (map surfaceWords (replicate count missing))) records₀ → FilePut (fileRecords kind) kind file entry records
   all-stored h {entry} p =
       let ns = allNames (k .parts) in
-      let held : records ≡ recordWords (after kind (k .parts)) ns ++ drop (count * 10) entry = k .held ∙ rw (end (k .walked) h, rest-same ns (k .names-held .many) p) refl in
+      let held : records ≡ recordWords (after kind (k .parts)) ns ++ drop (count * recordSize) entry = k .held ∙ rw (end (k .walked) h, rest-same ns (k .names-held .many) p) refl in
       record { put = λ parts e. rw (same-fine (sym e ∙ k .sound)) (words-put (after kind (k .parts)) ns (k .names-held .many) held) }

@@ -9,19 +9,19 @@ use lib.Seq.{set-append-left}
 use lib.Dec.{ltb}
 use borrow.Author.Tests.{eqb-true, ltb-true}
 use Rattle.format.specs.declared.Fault.the-variants.{ItemCut, PolygonNumber, SurfaceNumber}
-use Rattle.format.specs.Bytes.{_is_, joined, number, spelt}
+use Rattle.format.specs.Bytes.{tagNumber, _is_, joined, number}
 use Rattle.format.specs.Items.{fine, fault, _andThen_, Reader, _>>=_, _or_unless_, whole, u2, u4, vx}
 use Rattle.format.specs.Chunks.{unjudged}
 use Rattle.format.specs.Mesh.{polygonSize, Polygon}
 use Rattle.format.specs.Bodies.{Part, tagging, pair, taggingBody}
 use Rattle.format.specs.Rules.{retag, tagged}
-use Rattle.format.specs.Contracts.{Put, Says, ReadsAt, JudgedAt, Succeeds, keep, itself, taking, got}
+use Rattle.format.specs.Contracts.{Put, Says, ReadsAt, JudgedAt, Succeeds, keep, itself, taking, got, taggingPairs, polygonsWords}
 use Rattle.format.proofs.ReaderSteps.{on, given, exact, exactly, was-good, used-up}
 use Rattle.format.proofs.Entries.{ManyLoop, many-begin, many-turn, many-end}
 use Rattle.format.proofs.Inversion.{sound-first, sound-next, sound-good, sound-whole, many-sound}
 use Rattle.format.proofs.Tagging.{tagged-length}
-use Rattle.validate_taggings.specs.Contracts.{pairsOf}
-use Rattle.load_taggings.specs.Contracts.{wordsOf, TagsRoom, TagsPut}
+use Rattle.format.proofs.PolygonTables.{words-length}
+use Rattle.load_taggings.specs.Contracts.{TagsRoom, TagsPut}
 use Rattle.wire.proofs.ReadAgain.{never, sound-item}
 
 -- ---- a store amongst words that were put
@@ -39,17 +39,12 @@ put-over {t} {t′} {ws} {m} p k v inside room =
 
 -- ---- polygons
 
-pub words-size : (qs : List Polygon) → length (wordsOf qs) ≡ length qs * polygonSize
-unfolding joined
-words-size [] = refl
-words-size (q ∷ qs) = omega (arith, words-size qs)
-
 -- the type of a PTAG of surfaces
 abbrev surf : ℕ
-surf = number (spelt "SURF")
+surf = tagNumber "SURF"
 
 -- the surface number is the third of a polygon's words
-retag-words : (p n : ℕ) (qs : List Polygon) → p < length qs → set (wordsOf qs) (p * polygonSize + 2) n ≡ wordsOf (retag surf p n qs)
+retag-words : (p n : ℕ) (qs : List Polygon) → p < length qs → set (polygonsWords qs) (p * polygonSize + 2) n ≡ polygonsWords (retag surf p n qs)
 unfolding joined retag number
 retag-words p n [] h = absurd (omega arith)
 retag-words zero n (q ∷ qs) h = refl
@@ -57,13 +52,13 @@ retag-words (suc p) n (q ∷ qs) h =
     let e : suc p * polygonSize + 2 ≡ suc (suc (suc (p * polygonSize + 2))) = omega arith in
     rw e (ap (λ l. q .kind ∷ length (q .vertices) ∷ q .surface ∷ l) (retag-words p n qs (omega arith)))
 
-put-tag : {t t′ : List ℕ} {i : ℕ} (qs : List Polygon) (ts : List (ℕ × ℕ)) (p n : ℕ) → Put t i (wordsOf (tagged qs surf ts)) t′ → p < length qs
+put-tag : {t t′ : List ℕ} {i : ℕ} (qs : List Polygon) (ts : List (ℕ × ℕ)) (p n : ℕ) → Put t i (polygonsWords (tagged qs surf ts)) t′ → p < length qs
     → i + length qs * polygonSize ≤ length t
-    → Put t i (wordsOf (tagged qs surf (ts ++ ((p, n) ∷ [])))) (set t′ (i + (p * polygonSize + 2)) n)
+    → Put t i (polygonsWords (tagged qs surf (ts ++ ((p, n) ∷ [])))) (set t′ (i + (p * polygonSize + 2)) n)
 put-tag qs ts p n w h room =
     let now = tagged qs surf ts in
     let l : length now ≡ length qs = tagged-length surf ts qs in
-    let z : length (wordsOf now) ≡ length now * polygonSize = words-size now in
+    let z : length (polygonsWords now) ≡ length now * polygonSize = words-length now in
     let e : tagged qs surf (ts ++ ((p, n) ∷ [])) ≡ retag surf p n now = foldl-append (λ now t. retag surf (t .0) (t .1) now) qs ts ((p, n) ∷ []) in
     rw (e, ← retag-words p n now (omega (arith, l))) (put-over w (p * polygonSize + 2) n (omega (arith, l, z)) (omega (arith, l, z)))
 
@@ -77,14 +72,14 @@ held j e = let same = rw e at (j .is) in (cc, cc)
 
 -- the pairs `done` are put, and those that follow are read from here on
 pub record TagsStored (s : List ℕ) (from polygons names : ℕ) (table₀ : List ℕ) (i at : ℕ) (table : List ℕ) : Type 0 where
-  pub room : TagsRoom (whole 0 (pairsOf polygons names) from (drop from s)) polygons table₀ i
+  pub room : TagsRoom (whole 0 (taggingPairs polygons names) from (drop from s)) polygons table₀ i
   pub done : List (ℕ × ℕ)
-  pub rest : ManyLoop (keep itself (pairsOf polygons names from (drop from s))) (pair polygons names) s at (λ ts. tagging surf (done ++ ts))
+  pub rest : ManyLoop (keep itself (taggingPairs polygons names from (drop from s))) (pair polygons names) s at (λ ts. tagging surf (done ++ ts))
   pub kept : length table ≡ length table₀
-  pub put : (qs : List Polygon) → length qs ≡ polygons → Put table₀ i (wordsOf qs) table₀ → Put table₀ i (wordsOf (tagged qs surf done)) table
+  pub put : (qs : List Polygon) → length qs ≡ polygons → Put table₀ i (polygonsWords qs) table₀ → Put table₀ i (polygonsWords (tagged qs surf done)) table
 
 pub tags-begin : {s : List ℕ} {from polygons names : ℕ} {table : List ℕ} {i : ℕ}
-    → TagsRoom (whole 0 (pairsOf polygons names) from (drop from s)) polygons table i
+    → TagsRoom (whole 0 (taggingPairs polygons names) from (drop from s)) polygons table i
     → TagsStored s from polygons names table i from table
 tags-begin r = record { room = r; done = []; rest = many-begin (tagging surf) itself (tagging surf) (λ ts. refl); kept = refl; put = λ qs l w. w }
 
@@ -92,8 +87,8 @@ module _ {s : List ℕ} {from polygons names : ℕ} {table₀ : List ℕ} {i at 
   module _ (some : at < length s) where
     pair-sound : Succeeds (pair polygons names at (drop at s))
     pair-sound =
-        let u = sound-whole (pairsOf polygons names) 0 from (drop from s) (record { value = _; is = f .room .sound }) in
-        let same : Says (pairsOf polygons names) itself s from (pairsOf polygons names from (drop from s)) = exact refl in
+        let u = sound-whole (taggingPairs polygons names) 0 from (drop from s) (record { value = _; is = f .room .sound }) in
+        let same : Says (taggingPairs polygons names) itself s from (taggingPairs polygons names from (drop from s)) = exact refl in
         let e = many-sound (f .rest) some (record { value = u .got; is = sym (same .is) ∙ u .is }) in
         record { value = e .first; is = e .is }
 
@@ -140,9 +135,9 @@ module _ {s : List ℕ} {from polygons names : ℕ} {table₀ : List ℕ} {i at 
               put = λ qs l h. put-tag qs (f .done) p (suc t) (f .put qs l h) (omega (arith, l, below)) (omega (arith, l, f .room .fits));
             })
 
-  pub tags-end : length s ≤ at → TagsPut (whole 0 (pairsOf polygons names) from (drop from s)) polygons table₀ i table
+  pub tags-end : length s ≤ at → TagsPut (whole 0 (taggingPairs polygons names) from (drop from s)) polygons table₀ i table
   tags-end end =
-      let j : JudgedAt 0 from (pairsOf polygons names) itself s (fine (tagging surf (f .done ++ []))) = used-up (record { is = many-end (f .rest) end }) end in
+      let j : JudgedAt 0 from (taggingPairs polygons names) itself s (fine (tagging surf (f .done ++ []))) = used-up (record { is = many-end (f .rest) end }) end in
       record { put = λ qs type ts l e h. rw (← held j e .0, ← held j e .1, append-nil (f .done)) (f .put qs l h) }
 
 -- ---- the type of a body
@@ -156,7 +151,7 @@ module _ (polygons names : ℕ) {s : List ℕ} where
       never (sound-first u4 _ 8 (drop 8 s) (record { value = u .got; is = u .is })) (w .says)
 
   module _ {t next : ℕ} (w : ReadsAt u4 (taking 4) s 8 (got s t next)) where
-    pub of-surfaces : t is "SURF" ≡ true → whole 0 (taggingBody polygons names) 8 (drop 8 s) ≡ whole 0 (pairsOf polygons names) next (drop next s)
+    pub of-surfaces : t is "SURF" ≡ true → whole 0 (taggingBody polygons names) 8 (drop 8 s) ≡ whole 0 (taggingPairs polygons names) next (drop next s)
     unfolding taggingBody whole number _>>=_ _andThen_
     of-surfaces e = rw (exactly (w .says), eqb-true t _ e)
 

@@ -1,6 +1,6 @@
 -- Words that were put split in two, so that others put over the second part leave the first: a PTAG changes the latest polygons only.
 use mathlib.Core.Path.{_≡_, refl, sym, ap, _∙_}
-use mathlib.Core.List.{List, _++_, map, append-assoc, map-append}
+use mathlib.Core.List.{List, _++_, append-assoc}
 use Prim.Native.Nat.{ℕ, _+_, _*_, _≤_}
 use native.Mathlib.Omega.{arith}
 use lib.ListN.{length, take, drop, length-append, length-take}
@@ -9,11 +9,11 @@ use Rattle.format.specs.Items.{Verdict, fine}
 use Rattle.format.specs.Mesh.{polygonSize, Polygon, polygonWords}
 use Rattle.format.specs.Bodies.{Part, tagging}
 use Rattle.format.specs.Rules.{tagged}
-use Rattle.format.specs.Contracts.{Put}
-use Rattle.format.proofs.Puts.{joined-append}
+use Rattle.format.specs.Contracts.{Put, polygonsWords}
+use Rattle.format.proofs.Puts.{joined-map-append}
 use Rattle.format.proofs.Tagging.{tagged-length}
-use Rattle.load_taggings.specs.Contracts.{wordsOf, TagsPut}
-use Rattle.load_taggings.proofs.PutTaggings.{words-size}
+use Rattle.format.proofs.PolygonTables.{words-length}
+use Rattle.load_taggings.specs.Contracts.{TagsPut}
 
 -- `us` and then `ws` were put
 module _ (us ws : List ℕ) {t₀ t : List ℕ} {m : ℕ} (p : Put t₀ m (us ++ ws) t) (room : m + length (us ++ ws) ≤ length t₀) where
@@ -46,17 +46,14 @@ module _ (us ws : List ℕ) {t₀ t : List ℕ} {m : ℕ} (p : Put t₀ m (us ++
 
 -- ---- the polygons of the latest POLS, behind those of earlier ones
 
-words-append : (ps qs : List Polygon) → wordsOf (ps ++ qs) ≡ wordsOf ps ++ wordsOf qs
-words-append ps qs = rw (map-append polygonWords ps qs) (joined-append (map polygonWords ps) (map polygonWords qs))
-
-pub tags-behind : (ps qs : List Polygon) (type : ℕ) (ts : List (ℕ × ℕ)) {v : Verdict Part} {t₀ t t′ : List ℕ} {m : ℕ} → Put t₀ m (wordsOf (ps ++ qs)) t
-    → m + length (wordsOf (ps ++ qs)) ≤ length t₀
-    → TagsPut v (length qs) t (m + length ps * polygonSize) t′ → v ≡ fine (tagging type ts) → Put t₀ m (wordsOf (ps ++ tagged qs type ts)) t′
+pub tags-behind : (ps qs : List Polygon) (type : ℕ) (ts : List (ℕ × ℕ)) {v : Verdict Part} {t₀ t t′ : List ℕ} {m : ℕ} → Put t₀ m (polygonsWords (ps ++ qs)) t
+    → m + length (polygonsWords (ps ++ qs)) ≤ length t₀
+    → TagsPut v (length qs) t (m + length ps * polygonSize) t′ → v ≡ fine (tagging type ts) → Put t₀ m (polygonsWords (ps ++ tagged qs type ts)) t′
 tags-behind ps qs type ts {m = m} p room w e =
-    let p′ = rw (words-append ps qs) at p in
-    let room′ = rw (words-append ps qs) at room in
-    let same : length (wordsOf (tagged qs type ts)) ≡ length (wordsOf qs)
-    = words-size (tagged qs type ts) ∙ ap (λ n. n * polygonSize) (tagged-length type ts qs) ∙ sym (words-size qs) in
-    let w′ = rw (← words-size ps) at w in
-    rw (words-append ps (tagged qs type ts)) (put-behind (wordsOf ps) (wordsOf qs) p′ room′ same
-    (w′ .put qs type ts refl e (held-behind (wordsOf ps) (wordsOf qs) p′ room′)))
+    let p′ = rw (joined-map-append polygonWords ps qs) at p in
+    let room′ = rw (joined-map-append polygonWords ps qs) at room in
+    let same : length (polygonsWords (tagged qs type ts)) ≡ length (polygonsWords qs)
+    = words-length (tagged qs type ts) ∙ ap (λ n. n * polygonSize) (tagged-length type ts qs) ∙ sym (words-length qs) in
+    let w′ = rw (← words-length ps) at w in
+    rw (joined-map-append polygonWords ps (tagged qs type ts)) (put-behind (polygonsWords ps) (polygonsWords qs) p′ room′ same
+    (w′ .put qs type ts refl e (held-behind (polygonsWords ps) (polygonsWords qs) p′ room′)))

@@ -1,17 +1,13 @@
 -- What the tags of a body that is fine change in the table of polygons. `v` is what the specification says of the body.
 use Prim.Native.Nat.{ℕ, _+_, _*_, _≤_}
 use mathlib.Core.Path.{_≡_}
-use mathlib.Core.List.{List, map}
+use mathlib.Core.List.{List}
 use lib.ListN.{length}
-use Rattle.format.specs.Bytes.{joined}
 use Rattle.format.specs.Items.{Verdict, fine}
-use Rattle.format.specs.Mesh.{Polygon, polygonWords, polygonSize}
+use Rattle.format.specs.Mesh.{Polygon, polygonSize}
 use Rattle.format.specs.Bodies.{Part, tagging}
 use Rattle.format.specs.Rules.{tagged}
-use Rattle.format.specs.Contracts.{Put}
-
-abbrev pub wordsOf : List Polygon → List ℕ
-wordsOf qs = joined (map polygonWords qs)
+use Rattle.format.specs.Contracts.{Put, polygonsWords}
 
 -- the body is fine, and the table has room for so many polygons from the index i on
 pub record TagsRoom (v : Verdict Part) (polygons : ℕ) (table : List ℕ) (i : ℕ) : Type 0 where
@@ -22,5 +18,5 @@ pub record TagsRoom (v : Verdict Part) (polygons : ℕ) (table : List ℕ) (i : 
 
 -- whatever polygons stood in the table from the index i on, they stand there with their tags, and the rest of the table is unchanged
 pub record TagsPut (v : Verdict Part) (polygons : ℕ) (table : List ℕ) (i : ℕ) (table′ : List ℕ) : Type 0 where
-  pub put : (qs : List Polygon) (type : ℕ) (ts : List (ℕ × ℕ)) → length qs ≡ polygons → v ≡ fine (tagging type ts) → Put table i (wordsOf qs) table
-      → Put table i (wordsOf (tagged qs type ts)) table′
+  pub put : (qs : List Polygon) (type : ℕ) (ts : List (ℕ × ℕ)) → length qs ≡ polygons → v ≡ fine (tagging type ts) → Put table i (polygonsWords qs) table
+      → Put table i (polygonsWords (tagged qs type ts)) table′

@@ -2,7 +2,7 @@
 ghost use lib.ListN.{drop};
 ghost use Rattle.format.specs.Items.{whole};
 ghost use Rattle.format.specs.Bodies.{taggingBody};
-ghost use Rattle.validate_taggings.specs.Contracts.{pairsOf};
+ghost use Rattle.format.specs.Contracts.{taggingPairs};
 ghost use Rattle.load_taggings.specs.Contracts.{TagsRoom, TagsPut};
 use format::POLYGON_WORDS;
 use format::tags::SURF;
@@ -10,11 +10,11 @@ use wire::cursor::Cursor;
 use wire::cursor::Item;
 use wire::cursor::Number;
 
-// The pairs from a place up to the body's end. A polygon's surface number is the third of its three words, and counts the names from 1, where a tag counts
+// The pairs from a place up to the body's end. A polygon's surface number is the third of its words, and counts the names from 1, where a tag counts
 // them from 0. A later tag of the same polygon is put over an earlier one, so that the last stands. The pairs were judged to be fine.
 fn put_pairs(s: &[u8], from: Cursor, polygons: usize, names: usize, table: &mut [u32], i: usize)
-    requires { ⌜ TagsRoom (whole 0 (pairsOf polygons names) (from .at) (drop (from .at) (now s))) polygons (now table) i ⌝ }
-    ensures { λ _. ⌜ TagsPut (whole 0 (pairsOf polygons names) (from .at) (drop (from .at) (now (s .entry)))) polygons (now (table .entry)) i (now (table .exit)) ⌝ }
+    requires { ⌜ TagsRoom (whole 0 (taggingPairs polygons names) (from .at) (drop (from .at) (now s))) polygons (now table) i ⌝ }
+    ensures { λ _. ⌜ TagsPut (whole 0 (taggingPairs polygons names) (from .at) (drop (from .at) (now (s .entry)))) polygons (now (table .entry)) i (now (table .exit)) ⌝ }
 {
     let mut at = from.at;
     while at < s.len() {

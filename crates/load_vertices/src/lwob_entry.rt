@@ -6,7 +6,7 @@ ghost use Rattle.load_vertices.specs.Contracts.{EntryRoom, lwobEntry, Lw
 use crate::Ends;
 use crate::Lists;
 use crate::vertices::put_u2_vertices;
-use crate::words::put_words;
+use crate::words::put_polygon_words;
 use wire::cursor::Cursor;
 use wire::cursor::Number;
 use wire::cursor::SignedSurface;
@@ -53,7 +53,7 @@ pub fn put_lwob_entry(
     let SignedSurfaceRead::Got(sign, next) = after.surface_number(s) else {
         return unread(c);
     };
-    put_words(polygons, ends.polygons, kind, n, sign.number);
+    put_polygon_words(polygons, ends.polygons, kind, n, sign.number);
     LwobEntryStored {
         next,
         vertices: n as usize,

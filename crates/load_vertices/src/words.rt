@@ -6,7 +6,7 @@ ghost use Rattle.format.specs.Mesh.{polygonSize};
 ghost use Rattle.format.specs.Contracts.{Put};
 
 // The three words of a polygon into the table from the index i on.
-pub fn put_words(table: &mut [u32], i: usize, kind: u32, count: u32, surface: u32)
+pub fn put_polygon_words(table: &mut [u32], i: usize, kind: u32, count: u32, surface: u32)
     requires { ⌜ i + polygonSize ≤ length (now table) ⌝ }
     ensures { λ _. ⌜ Put (now (table .entry)) i (kind ∷ count ∷ surface ∷ []) (now (table .exit)) ⌝ }
 {

@@ -10,7 +10,7 @@ use lib.Seq.{drop-drop, getD-take, getD-drop}
 use Rattle.format.specs.Bytes.{sum}
 use Rattle.format.specs.Mesh.{word, polygonFrom, polygonSize, surfaceFrom, recordSize}
 use Rattle.format.specs.Written.{pieces, entries, polygonsFrom}
-use Rattle.mesh.specs.Lent.{entryAt, column, polygonsOf, surfacesOf}
+use Rattle.mesh.specs.Lent.{entryAt, column, meshPolygons, meshSurfaces}
 
 pub first : (n : ℕ) (ws : List ℕ) → 0 < n → n ≤ length ws → entries n ws ≡ take n ws ∷ entries n (drop n ws)
 unfolding entries pieces
@@ -69,23 +69,23 @@ sum-at n index at ws some fits = rw (entries-at n at ws some fits)
 
 -- ---- records
 
-pub surfaces-at : (at : ℕ) (ws : List ℕ) → recordSize ≤ length ws - at → surfacesOf (drop at ws) ≡ surfaceFrom (entryAt recordSize at ws) ∷ surfacesOf (drop (at + recordSize) ws)
-unfolding surfacesOf
+pub surfaces-at : (at : ℕ) (ws : List ℕ) → recordSize ≤ length ws - at → meshSurfaces (drop at ws) ≡ surfaceFrom (entryAt recordSize at ws) ∷ meshSurfaces (drop (at + recordSize) ws)
+unfolding meshSurfaces
 surfaces-at at ws fits = rw (entries-at recordSize at ws (omega arith) fits)
 
-pub surfaces-past : (at : ℕ) (ws : List ℕ) → length ws - at < recordSize → surfacesOf (drop at ws) ≡ []
-unfolding surfacesOf
+pub surfaces-past : (at : ℕ) (ws : List ℕ) → length ws - at < recordSize → meshSurfaces (drop at ws) ≡ []
+unfolding meshSurfaces
 surfaces-past at ws short = rw (entries-past recordSize at ws short)
 
 -- ---- polygons, which take their vertices along
 
 pub polygons-at : (at from : ℕ) (ws vs : List ℕ) → polygonSize ≤ length ws - at
-    → polygonsOf (drop at ws) (drop from vs)
+    → meshPolygons (drop at ws) (drop from vs)
     ≡ polygonFrom (entryAt polygonSize at ws) (take (word 1 (entryAt polygonSize at ws)) (drop from vs))
-    ∷ polygonsOf (drop (at + polygonSize) ws) (drop (from + word 1 (entryAt polygonSize at ws)) vs)
-unfolding polygonsOf polygonsFrom pieces
+    ∷ meshPolygons (drop (at + polygonSize) ws) (drop (from + word 1 (entryAt polygonSize at ws)) vs)
+unfolding meshPolygons polygonsFrom pieces
 polygons-at at from ws vs fits = rw (entries-at polygonSize at ws (omega arith) fits, drop-drop (word 1 (entryAt polygonSize at ws)) from vs)
 
-pub polygons-past : (at : ℕ) (ws vs : List ℕ) → length ws - at < polygonSize → polygonsOf (drop at ws) vs ≡ []
-unfolding polygonsOf polygonsFrom
+pub polygons-past : (at : ℕ) (ws vs : List ℕ) → length ws - at < polygonSize → meshPolygons (drop at ws) vs ≡ []
+unfolding meshPolygons polygonsFrom
 polygons-past at ws vs short = rw (entries-past polygonSize at ws short)

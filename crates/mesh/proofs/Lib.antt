@@ -4,5 +4,6 @@ pub mod ColumnWalk
 pub mod PolygonWalk
 pub mod Runs
 pub mod RunWalk
+pub mod Pairs
 pub mod Records
 pub mod MeshFacts

@@ -9,7 +9,7 @@ use Rattle.format.specs.Bytes.{sum}
 use Rattle.format.specs.Mesh.{polygonOf, Polygon, word, polygonSize}
 use Rattle.format.specs.Written.{vertexCounts}
 use Rattle.mesh.specs.declared.polygons.Polygon as view
-use Rattle.mesh.specs.Lent.{entryAt, polygonsOf}
+use Rattle.mesh.specs.Lent.{entryAt, meshPolygons}
 use Rattle.mesh.specs.Polygons.{polygonAt}
 use Rattle.format.proofs.Indexed.{part}
 use Rattle.mesh.proofs.Entries.{sum-at, polygons-at, polygons-past}
@@ -19,9 +19,9 @@ use Rattle.mesh.proofs.Entries.{sum-at, polygons-at, polygons-past}
 pub record PolygonWalk (ws vs : List ℕ) (Left : List Polygon → Type 0) (at first : ℕ) : Type 0 where
   pub inside : at ≤ length ws
   pub agree : first + sum (vertexCounts (drop at ws)) ≡ length vs
-  pub left : Left (polygonsOf (drop at ws) (drop first vs))
+  pub left : Left (meshPolygons (drop at ws) (drop first vs))
 
-pub begin : {ws vs : List ℕ} {Left : List Polygon → Type 0} → sum (vertexCounts ws) ≡ length vs → Left (polygonsOf ws vs) → PolygonWalk ws vs Left 0 0
+pub begin : {ws vs : List ℕ} {Left : List Polygon → Type 0} → sum (vertexCounts ws) ≡ length vs → Left (meshPolygons ws vs) → PolygonWalk ws vs Left 0 0
 begin agree left = record { inside = omega arith; agree = omega arith; left = left }
 
 module _ {ws vs : List ℕ} {Left : List Polygon → Type 0} {at first : ℕ} (w : PolygonWalk ws vs Left at first) where
@@ -51,7 +51,7 @@ module _ {ws vs : List ℕ} {Left : List Polygon → Type 0} {at first : ℕ} (w
           rw (is, part first n vs) (omega (arith, long))
 
       abbrev later : List Polygon
-      later = polygonsOf (drop (at + polygonSize) ws) (drop (p .end) vs)
+      later = meshPolygons (drop (at + polygonSize) ws) (drop (p .end) vs)
 
       pub here : Left (polygonOf (p .kind) (p .surface) own ∷ later)
       here = rw (is, part first (word 1 (entryAt polygonSize at ws)) vs) (rw (polygons-at at first ws vs fits) at (w .left))

@@ -9,7 +9,7 @@ use Rattle.format.specs.Bytes.{sum}
 use Rattle.format.specs.Mesh.{Polygon, polygonSize}
 use Rattle.format.specs.Canonical.{runs}
 use Rattle.format.specs.Written.{vertexCounts}
-use Rattle.mesh.specs.Lent.{polygonsOf}
+use Rattle.mesh.specs.Lent.{meshPolygons}
 use Rattle.mesh.specs.Polygons.{PolygonsLent, runEnd}
 use Rattle.format.proofs.Indexed.{part}
 use Rattle.mesh.proofs.PolygonWalk as polygons
@@ -21,7 +21,7 @@ pub record RunWalk (ws vs : List ℕ) (Left : List (List Polygon) → Type 0) (a
   pub lent : PolygonsLent ws vs
   pub walk : PolygonWalk ws vs (λ ps. Left (runs ps)) at first
 
-pub begin : {ws vs : List ℕ} {Left : List (List Polygon) → Type 0} → PolygonsLent ws vs → Left (runs (polygonsOf ws vs)) → RunWalk ws vs Left 0 0
+pub begin : {ws vs : List ℕ} {Left : List (List Polygon) → Type 0} → PolygonsLent ws vs → Left (runs (meshPolygons ws vs)) → RunWalk ws vs Left 0 0
 begin lent left = record { lent = lent; walk = polygons.begin (lent .agree) left }
 
 module _ {ws vs : List ℕ} {Left : List (List Polygon) → Type 0} {at first : ℕ} (w : RunWalk ws vs Left at first) where
@@ -70,12 +70,12 @@ module _ {ws vs : List ℕ} {Left : List (List Polygon) → Type 0} {at first : 
       words = (omega (arith, run-long, later), rw (part first n vs) long)
 
       abbrev others : List (List Polygon)
-      others = runs (polygonsOf (drop to ws) (drop (first + n) vs))
+      others = runs (meshPolygons (drop to ws) (drop (first + n) vs))
 
-      next-run : runs (polygonsOf (drop at ws) (drop first vs)) ≡ polygonsOf run own ∷ others
+      next-run : runs (meshPolygons (drop at ws) (drop first vs)) ≡ meshPolygons run own ∷ others
       next-run = rw (part first n vs) (rw (← count) at (runs-at ws vs at first to fits (to-is .0) (to-is .1) (rw (← count) room)))
 
-      pub here : Left (polygonsOf run own ∷ others)
+      pub here : Left (meshPolygons run own ∷ others)
       here = rw next-run at (w .walk .left)
 
       pub turn : {Left′ : List (List Polygon) → Type 0} → Left′ others → RunWalk ws vs Left′ to (first + n)

@@ -12,7 +12,8 @@ use Rattle.format.specs.Bytes.{if_then_else_, sum}
 use Rattle.format.specs.Mesh.{Polygon, word, polygonSize, polygonFrom}
 use Rattle.format.specs.Canonical.{ahead, runs}
 use Rattle.format.specs.Written.{pieces, entries, polygonsFrom, vertexCounts}
-use Rattle.mesh.specs.Lent.{entryAt, column, polygonsOf}
+use Rattle.format.proofs.Facts.{sum-append}
+use Rattle.mesh.specs.Lent.{entryAt, column, meshPolygons}
 use Rattle.mesh.proofs.Entries.{first, entries-none, length-entries, column-at, column-past, polygons-at}
 use Rattle.mesh.specs.Polygons.{leading, runEnd}
 
@@ -44,23 +45,18 @@ unfolding polygonsFrom pieces
 fields f index is [] vs = refl
 fields f index is (e ∷ es) vs = rw (is e (take (word 1 e) vs), fields f index is es (drop (word 1 e) vs))
 
-pub kinds : (ws vs : List ℕ) → map kindOf (polygonsOf ws vs) ≡ column polygonSize 0 ws
-unfolding polygonsOf
+pub kinds : (ws vs : List ℕ) → map kindOf (meshPolygons ws vs) ≡ column polygonSize 0 ws
+unfolding meshPolygons
 kinds ws vs = fields kindOf 0 (λ w vs. refl) (entries polygonSize ws) vs
 
-pub surfaces : (ws vs : List ℕ) → map (λ p. p .surface) (polygonsOf ws vs) ≡ column polygonSize 2 ws
-unfolding polygonsOf
+pub surfaces : (ws vs : List ℕ) → map (λ p. p .surface) (meshPolygons ws vs) ≡ column polygonSize 2 ws
+unfolding meshPolygons
 surfaces ws vs = fields (λ p. p .surface) 2 (λ w vs. refl) (entries polygonSize ws) vs
 
-pub length-polygons : (ws vs : List ℕ) → length (polygonsOf ws vs) ≡ length ws / polygonSize
-length-polygons ws vs = sym (length-map (polygonsOf ws vs) kindOf) ∙ ap length (kinds ws vs) ∙ length-map (entries polygonSize ws) (word 0) ∙ length-entries polygonSize ws
+pub length-polygons : (ws vs : List ℕ) → length (meshPolygons ws vs) ≡ length ws / polygonSize
+length-polygons ws vs = sym (length-map (meshPolygons ws vs) kindOf) ∙ ap length (kinds ws vs) ∙ length-map (entries polygonSize ws) (word 0) ∙ length-entries polygonSize ws
 
 -- ---- the entries of j polygons in front and of the rest
-
-sum-append : (xs ys : List ℕ) → sum (xs ++ ys) ≡ sum xs + sum ys
-unfolding sum
-sum-append [] ys = omega arith
-sum-append (x ∷ xs) ys = omega (arith, sum-append xs ys)
 
 front-of : (b n : ℕ) (vs : List ℕ) → b ≤ length vs → drop b (take (b + n) vs) ≡ take n (drop b vs)
 front-of b n vs fits = rw (take-add b n vs) (drop-at (take b vs) (take n (drop b vs)) b (length-take-le b vs fits))
@@ -98,12 +94,12 @@ made-append (e ∷ es) fs vs fits =
     (ap (λ (l : List Polygon). polygonFrom e (take c vs) ∷ l) (made-append es fs (drop c vs) (omega (arith, length-drop c vs))))
 
 record Split (j : ℕ) (ws vs : List ℕ) (n : ℕ) : Type 0 where
-  long : length (polygonsOf (take (j * polygonSize) ws) (take n vs)) ≡ j
-  so : polygonsOf ws vs ≡ polygonsOf (take (j * polygonSize) ws) (take n vs) ++ polygonsOf (drop (j * polygonSize) ws) (drop n vs)
+  long : length (meshPolygons (take (j * polygonSize) ws) (take n vs)) ≡ j
+  so : meshPolygons ws vs ≡ meshPolygons (take (j * polygonSize) ws) (take n vs) ++ meshPolygons (drop (j * polygonSize) ws) (drop n vs)
 
 polygons-split : (j : ℕ) (ws vs : List ℕ) → j * polygonSize ≤ length ws → sum (vertexCounts (take (j * polygonSize) ws)) ≤ length vs
     → Split j ws vs (sum (vertexCounts (take (j * polygonSize) ws)))
-unfolding polygonsOf
+unfolding meshPolygons
 polygons-split j ws vs fits room =
     let front : List ℕ = take (j * polygonSize) ws in
     let count = length-take-le (j * polygonSize) ws fits in
@@ -135,15 +131,15 @@ module _ (ws vs : List ℕ) (at first end : ℕ) (fits : polygonSize ≤ length 
       rw (words, drop-drop (end - at) at ws, rest) at (counts-split (suc after) (drop at ws) there)
 
   pub runs-at : first + sum (vertexCounts (take (end - at) (drop at ws))) ≤ length vs
-      → runs (polygonsOf (drop at ws) (drop first vs))
-      ≡ polygonsOf (take (end - at) (drop at ws)) (take (sum (vertexCounts (take (end - at) (drop at ws)))) (drop first vs))
-      ∷ runs (polygonsOf (drop end ws) (drop (first + sum (vertexCounts (take (end - at) (drop at ws)))) vs))
+      → runs (meshPolygons (drop at ws) (drop first vs))
+      ≡ meshPolygons (take (end - at) (drop at ws)) (take (sum (vertexCounts (take (end - at) (drop at ws)))) (drop first vs))
+      ∷ runs (meshPolygons (drop end ws) (drop (first + sum (vertexCounts (take (end - at) (drop at ws)))) vs))
   runs-at room =
       let n : ℕ = sum (vertexCounts (take (end - at) (drop at ws))) in
       let rest : at + (end - at) ≡ end = omega arith in
-      let ps : List Polygon = polygonsOf (drop at ws) (drop first vs) in
-      let run : List Polygon = polygonsOf (take (end - at) (drop at ws)) (take n (drop first vs)) in
-      let others : List Polygon = polygonsOf (drop end ws) (drop (first + n) vs) in
+      let ps : List Polygon = meshPolygons (drop at ws) (drop first vs) in
+      let run : List Polygon = meshPolygons (take (end - at) (drop at ws)) (take n (drop first vs)) in
+      let others : List Polygon = meshPolygons (drop end ws) (drop (first + n) vs) in
       let s : Split (suc after) (drop at ws) (drop first vs) n = rw words at (polygons-split (suc after) (drop at ws) (drop first vs) there (rw words (omega (arith, length-drop first vs)))) in
       let long : length run ≡ suc after = rw words at (s .long) in
       let are : ps ≡ run ++ others = rw (words, drop-drop (end - at) at ws, rest, drop-drop n first vs) at (s .so) in

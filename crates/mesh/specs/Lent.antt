@@ -9,14 +9,14 @@ use Rattle.format.specs.Written.{pieces, entries, polygonsFrom, vertexCounts}
 abbrev pub entryAt : (n at : ℕ) → List ℕ → List ℕ
 entryAt n at ws = take n (drop at ws)
 
--- one word of each entry of n words, as `vertexCounts` has the second of three
+-- one word of each entry of n words, as `vertexCounts` has the second
 abbrev pub column : (n index : ℕ) → List ℕ → List ℕ
 column n index ws = map (word index) (entries n ws)
 
 -- ---- what `meshFrom` makes of some of the tables
 
-unfoldable pub polygonsOf : (polygons vertices : List ℕ) → List Polygon
-polygonsOf ws vs = polygonsFrom (entries polygonSize ws) (pieces (vertexCounts ws) vs)
+unfoldable pub meshPolygons : (polygons vertices : List ℕ) → List Polygon
+meshPolygons ws vs = polygonsFrom (entries polygonSize ws) (pieces (vertexCounts ws) vs)
 
-unfoldable pub surfacesOf : (records : List ℕ) → List Surface
-surfacesOf ws = map surfaceFrom (entries recordSize ws)
+unfoldable pub meshSurfaces : (records : List ℕ) → List Surface
+meshSurfaces ws = map surfaceFrom (entries recordSize ws)

@@ -1,12 +1,13 @@
--- One polygon of the tables as code sees it, and the runs of polygons of one kind.
+-- One polygon of the tables as code sees it, the runs of polygons of one kind, and the pairs that a run is tagged by.
 use Prim.Native.Nat.{ℕ, suc, _+_, _*_, _≤_}
 use mathlib.Core.Path.{_≡_}
-use mathlib.Core.List.{List, [], _∷_}
+use mathlib.Core.List.{List, [], _∷_, _++_}
 use lib.Dec.{eqb}
 use lib.ListN.{length, drop}
 use Rattle.format.specs.Bytes.{if_then_else_, sum}
 use Rattle.format.specs.Limits.{entryLimit}
 use Rattle.format.specs.Mesh.{word, polygonSize}
+use Rattle.format.specs.Canonical.{pairBytes}
 use Rattle.format.specs.Written.{vertexCounts}
 use Rattle.mesh.specs.Lent.{entryAt, column}
 use Rattle.mesh.specs.declared.polygons.Polygon.{Polygon}
@@ -36,3 +37,11 @@ leading k (n ∷ ns) = if eqb k n then suc (leading k ns) else 0
 -- the place after the run that begins at a place: its first polygon, and as many of that kind as follow it
 abbrev pub runEnd : (polygons : List ℕ) → (at : ℕ) → ℕ
 runEnd ws at = at + polygonSize + leading (word 0 (entryAt polygonSize at ws)) (column polygonSize 0 (drop (at + polygonSize) ws)) * polygonSize
+
+-- the pairs of a run as bytes, by the surfaces of its polygons: one for each that has a surface; i is its number in the run
+abbrev pub pairOf : (i surface : ℕ) → List ℕ
+pairOf i surface = if eqb surface 0 then [] else pairBytes (i, surface)
+
+unfoldable pub pairsFrom : (i : ℕ) → (surfaces : List ℕ) → List ℕ
+pairsFrom i [] = []
+pairsFrom i (s ∷ ss) = pairOf i s ++ pairsFrom (suc i) ss

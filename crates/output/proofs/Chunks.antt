@@ -10,7 +10,7 @@ use Rattle.format.specs.Bytes.{spelt, joined}
 use Rattle.format.specs.Canonical.{bytes, chunkBytes, unlessEmpty}
 use Rattle.format.proofs.CanonicalLengths.{length-bytes}
 use Rattle.output.specs.Outputs.{Wrote, chunksBytes, headBytes, taggedBytes}
-use Rattle.output.proofs.PutSoFar.{nothing, then-wrote}
+use Rattle.output.proofs.PutSoFar.{wrote-none, then-wrote}
 use Rattle.output.proofs.Parts.{PartsLeft, begin, room, turn, end}
 
 -- ---- the head first, where the length of the body is known
@@ -43,7 +43,7 @@ module _ {goal body t : List ℕ} {width tag n at : ℕ} (w : Chunk goal width t
 
       -- an even body has no pad
       pub unpadded : n % 2 ≡ 0 → Wrote t at goal t₂ a₂
-      unpadded even = chunk (rw even nothing)
+      unpadded even = chunk (rw even wrote-none)
 
 module _ (width tag : ℕ) (s : String) (body : List ℕ) (spells : bytes 4 tag ≡ spelt s) where
   pub chunk-is : chunkBytes width s body ≡ taggedBytes width tag body

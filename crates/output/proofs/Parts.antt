@@ -6,14 +6,14 @@ use lib.ListN.{length}
 use Rattle.format.specs.Bytes.{joined}
 use Rattle.output.specs.Outputs.{Wrote}
 use Rattle.output.proofs.PutSoFar as bytes-put
-use Rattle.output.proofs.PutSoFar.{nothing, PutSoFar, First}
+use Rattle.output.proofs.PutSoFar.{wrote-none, PutSoFar, NextPart}
 
 -- those in `left` are still to be put
 pub record PartsLeft (goal : List ℕ) (left : List (List ℕ)) (t : List ℕ) (at : ℕ) (t′ : List ℕ) (next : ℕ) : Type 0 where
   pub fills : PutSoFar goal (joined left) t at t′ next
 
 pub begin : {goal t : List ℕ} {parts : List (List ℕ)} {at : ℕ} → goal ≡ joined parts → at + length goal ≤ length t → PartsLeft goal parts t at t at
-begin is fits = record { fills = record { fits = fits; so-far = []; wrote = nothing; so = is } }
+begin is fits = record { fills = record { fits = fits; so-far = []; wrote = wrote-none; so = is } }
 
 pub in-two : (x y : List ℕ) → x ++ y ≡ joined (x ∷ y ∷ [])
 unfolding joined
@@ -24,7 +24,7 @@ unfolding joined
 end w = bytes-put.end (w .fills) refl
 
 module _ {goal x t t′ : List ℕ} {xs : List (List ℕ)} {at next : ℕ} (w : PartsLeft goal (x ∷ xs) t at t′ next) where
-  one : First (joined (x ∷ xs)) x (joined xs)
+  one : NextPart (joined (x ∷ xs)) x (joined xs)
   unfolding joined
   one = record { is = refl }
 

@@ -18,8 +18,8 @@ use Rattle.format.proofs.Indexed.{at-index, past-end}
 use Rattle.format.proofs.Indexed.{part, pieces-at}
 use Rattle.output.specs.Outputs.{Wrote}
 
-pub nothing : {t : List ℕ} {at : ℕ} → Wrote t at [] t at
-nothing {t} {at} = record { put = put-none t at; next-is = omega arith; kept = refl }
+pub wrote-none : {t : List ℕ} {at : ℕ} → Wrote t at [] t at
+wrote-none {t} {at} = record { put = put-none t at; next-is = omega arith; kept = refl }
 
 module _ {t t′ ws : List ℕ} {at next : ℕ} (w : Wrote t at ws t′ next) where
   -- one byte more
@@ -43,7 +43,7 @@ module _ {t t′ ws : List ℕ} {at next : ℕ} (w : Wrote t at ws t′ next) wh
 -- ---- a loop that puts part after part
 
 -- a part comes first in what is left
-pub record First (rest x more : List ℕ) : Type 0 where
+pub record NextPart (rest x more : List ℕ) : Type 0 where
   pub is : rest ≡ x ++ more
 
 pub record PutSoFar (goal rest t : List ℕ) (at : ℕ) (t′ : List ℕ) (next : ℕ) : Type 0 where
@@ -53,7 +53,7 @@ pub record PutSoFar (goal rest t : List ℕ) (at : ℕ) (t′ : List ℕ) (next 
   pub so : goal ≡ so-far ++ rest
 
 pub begin : {goal t : List ℕ} {at : ℕ} → at + length goal ≤ length t → PutSoFar goal goal t at t at
-begin fits = record { fits = fits; so-far = []; wrote = nothing; so = refl }
+begin fits = record { fits = fits; so-far = []; wrote = wrote-none; so = refl }
 
 module _ {goal rest t t′ : List ℕ} {at next : ℕ} (w : PutSoFar goal rest t at t′ next) where
   pub end : rest ≡ [] → Wrote t at goal t′ next
@@ -61,7 +61,7 @@ module _ {goal rest t t′ : List ℕ} {at next : ℕ} (w : PutSoFar goal rest t
       let all-of : w .so-far ≡ goal = sym (w .so ∙ rw (none, append-nil (w .so-far))) in
       rw all-of at (w .wrote)
 
-  module _ {x more : List ℕ} (one : First rest x more) where
+  module _ {x more : List ℕ} (one : NextPart rest x more) where
     long : length goal ≡ length (w .so-far) + (length x + length more)
     long = ap length (w .so) ∙ rw (length-append (w .so-far) rest, one .is, length-append x more)
 
@@ -79,7 +79,7 @@ module _ {goal rest t t′ : List ℕ} {at next : ℕ} (w : PutSoFar goal rest t
 -- ---- what is left, by an index or a place
 
 module _ (f : ℕ → List ℕ) (xs : List ℕ) (i : ℕ) where
-  pub joined-more : i < length xs → First (joined (map f (drop i xs))) (f (getD xs i 0)) (joined (map f (drop (i + 1) xs)))
+  pub joined-more : i < length xs → NextPart (joined (map f (drop i xs))) (f (getD xs i 0)) (joined (map f (drop (i + 1) xs)))
   unfolding joined
   joined-more inside = record { is = rw (at-index xs i inside) }
 
@@ -87,12 +87,12 @@ module _ (f : ℕ → List ℕ) (xs : List ℕ) (i : ℕ) where
   unfolding joined
   joined-none outside = rw (past-end xs i outside)
 
-pub byte-more : (xs : List ℕ) (i : ℕ) → i < length xs → First (drop i xs) (getD xs i 0 ∷ []) (drop (i + 1) xs)
+pub byte-more : (xs : List ℕ) (i : ℕ) → i < length xs → NextPart (drop i xs) (getD xs i 0 ∷ []) (drop (i + 1) xs)
 byte-more xs i inside = record { is = at-index xs i inside }
 
 module _ (ns bs : List ℕ) (i from : ℕ) where
   pub strings-more : {n : ℕ} → n ≡ getD ns i 0 → i < length ns
-      → First (joined (map stringBytes (pieces (drop i ns) (drop from bs)))) (stringBytes (take (from + n - from) (drop from bs))) (joined (map stringBytes (pieces (drop (i + 1) ns) (drop (from + n) bs))))
+      → NextPart (joined (map stringBytes (pieces (drop i ns) (drop from bs)))) (stringBytes (take (from + n - from) (drop from bs))) (joined (map stringBytes (pieces (drop (i + 1) ns) (drop (from + n) bs))))
   unfolding joined
   strings-more {n} long inside = record { is = rw (part from n bs, long, pieces-at i from ns bs inside) }
 
@@ -125,13 +125,3 @@ string-is name k e =
 
 pub string-parts : (name : List ℕ) (k : ℕ) → k ≡ 2 - length name % 2 → length (stringBytes name) ≡ length name + length (take {A = ℕ} k (0 ∷ 0 ∷ []))
 string-parts name k e = ap length (string-is name k e) ∙ length-append name (take {A = ℕ} k (0 ∷ 0 ∷ []))
-
--- ---- the shortest VX
-
-pub short-vx : (n : ℕ) → n < 65280 → length (vxBytes n) ≡ 2
-unfolding vxBytes
-short-vx n small = rw (lt-ltb n 65280 small) (length-bytes 2 n)
-
-pub long-vx : (n : ℕ) → 65280 ≤ n → length (vxBytes n) ≡ 4
-unfolding vxBytes
-long-vx n large = rw (le-ltb n 65280 large) (length-bytes 4 (0xFF00_0000 + n))

@@ -8,10 +8,6 @@ use Rattle.format.specs.Bytes.{joined}
 use Rattle.format.specs.Canonical.{bytes, encoded}
 use Rattle.format.specs.Contracts.{Put}
 
--- what some elements are written as, joined
-abbrev pub total : {A : Type 0} → (A → List ℕ) → List A → ℕ
-total f xs = length (joined (map f xs))
-
 -- the output after `ws` was put into it from a place on; `next` is the place after them
 pub record Wrote (before : List ℕ) (at : ℕ) (ws after : List ℕ) (next : ℕ) : Type 0 where
   pub put : Put before at ws after

@@ -8,7 +8,8 @@ ghost use lib.ListN.{length};
 ghost use Rattle.format.specs.Bytes.{all, sum, joined};
 ghost use Rattle.format.specs.Canonical.{bytes, vxBytes, stringBytes};
 ghost use Rattle.format.specs.Written.{pieces};
-ghost use Rattle.output.specs.Outputs.{total, Wrote};
+ghost use Rattle.format.specs.Contracts.{total};
+ghost use Rattle.output.specs.Outputs.{Wrote};
 use words::wide;
 
 // The low two bytes of a number, the high one first.

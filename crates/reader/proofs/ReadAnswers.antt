@@ -15,7 +15,7 @@ use Rattle.format.specs.Bodies.{Part}
 use Rattle.format.specs.Rules.{start, PartAt, walk, form, judged, meshOf, skippedOf, detailsOf, partsOf, gives, outcome, rules}
 use Rattle.format.specs.Contracts.{walkParts}
 use Rattle.format.specs.Answer.{fits, answer, tablesAfter, Reads}
-use Rattle.format.proofs.Verdicts.{Known, known, stopped, then-fine, same-fine}
+use Rattle.format.proofs.Verdicts.{FineWith, fine-with, stopped, then-fine, same-fine}
 use Rattle.format.proofs.ChunkWalk.{parts-fine, within-limit}
 use Rattle.wire.specs.declared.Refusal.{Refusal}
 use Rattle.read_answer.specs.declared.Answer.{Answer}
@@ -34,8 +34,8 @@ module _ {file : List ℕ} {t : Tables} {a : Answer} where
   read-refused bytes w e = let j = stopped (judged file) counts (w .is) in record { bytes = bytes; answers = e ∙ rw j; leaves = rw j }
 
 module _ {file : List ℕ} {kind : Kind} {totals : Totals} (w : FileJudged file (FileResult.Counts kind totals)) where
-  found : Known (judged file) counts (kind, totals)
-  found = known (judged file) counts (w .is)
+  found : FineWith (judged file) counts (kind, totals)
+  found = fine-with (judged file) counts (w .is)
 
   abbrev placed : List PartAt
   placed = found .value .1

@@ -19,6 +19,7 @@ use lib.Ieee.Back.{round-whole}
 use lib.Ieee.Scale.{round-same}
 use Rattle.format.specs.Bytes.{negative, absolute, over255}
 use Rattle.format.specs.Bytes.{over256 as bits256}
+use Rattle.format.proofs.Levels.{exact}
 use Rattle.surface_levels.specs.Levels.{magnitude, exactBits, LevelOf, ColourOf}
 
 -- the divisors, as the code writes them
@@ -82,12 +83,6 @@ unfolding round
 round-not-nan f s num den = units-not-nan f s _ _
 
 -- ---- n / 256 is exact, and its bits
-exact : (s : Bool) (n : ℕ) → n < 2 ^ 24 → HasValue (round binary32 s n 256) s n 256
-exact s n h =
-    round-exact binary32 s n 256 n 141 (lit< tt) h
-    (lt-of-lt-of-le (mul-lt-mul-of-pos-right h (pow-pos 141)) (lit≤ tt))
-    (sym (mul-assoc n (2 ^ 141) 256))
-
 -- the magnitude in units of the smallest value
 units-of : (a n d : ℕ) → 0 < d → a * 256 ≡ n * d → a * 2 ^ 149 / d ≡ n * 2 ^ 141
 units-of a n d D h =

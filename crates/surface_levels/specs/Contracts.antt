@@ -2,7 +2,7 @@
 use Prim.Native.Nat.{ℕ, _+_}
 use mathlib.Core.Path.{_≡_}
 use mathlib.Core.List.{List, [], _∷_}
-use Rattle.format.specs.Bytes.{spelt, number}
+use Rattle.format.specs.Bytes.{tagNumber}
 use Rattle.format.specs.Items.{Verdict, fine, fault, Got, Reader, float}
 use Rattle.format.specs.Surfaces.{Value as Words, value}
 use Rattle.format.specs.Contracts.{got, itself, ReadsAt, taking, JudgedAt}
@@ -16,13 +16,13 @@ use Rattle.surface_levels.specs.Levels.{HasBits, bits}
 -- ---- tags
 
 abbrev pub colourTag : ℕ
-colourTag = number (spelt "COLR")
+colourTag = tagNumber "COLR"
 
 abbrev pub flagTag : ℕ
-flagTag = number (spelt "FLAG")
+flagTag = tagNumber "FLAG"
 
 abbrev pub sideTag : ℕ
-sideTag = number (spelt "SIDE")
+sideTag = tagNumber "SIDE"
 
 -- one thing for each level, in the order of `Shading`
 abbrev pub byShading : {A : Type 0} → (luminosity diffuse specular reflection transparency : A) → Shading → A
@@ -33,10 +33,10 @@ byShading l d s r t Shading.Reflection = r
 byShading l d s r t Shading.Transparency = t
 
 abbrev pub shortTag : Shading → ℕ
-shortTag w = byShading (number (spelt "LUMI")) (number (spelt "DIFF")) (number (spelt "SPEC")) (number (spelt "REFL")) (number (spelt "TRAN")) w
+shortTag w = byShading (tagNumber "LUMI") (tagNumber "DIFF") (tagNumber "SPEC") (tagNumber "REFL") (tagNumber "TRAN") w
 
 abbrev pub longTag : Shading → ℕ
-longTag w = byShading (number (spelt "VLUM")) (number (spelt "VDIF")) (number (spelt "VSPC")) (number (spelt "VRFL")) (number (spelt "VTRN")) w
+longTag w = byShading (tagNumber "VLUM") (tagNumber "VDIF") (tagNumber "VSPC") (tagNumber "VRFL") (tagNumber "VTRN") w
 
 -- the level whose tag it is; or it is the tag of none
 abbrev pub NamedBy : (tagOf : Shading → ℕ) → (tag : ℕ) → Named → Type 0

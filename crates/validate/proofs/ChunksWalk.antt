@@ -15,7 +15,7 @@ use Rattle.format.specs.Rules.{Before, after, judge, located}
 use Rattle.format.specs.Contracts.{walkParts, fileParts}
 use Rattle.format.proofs.ChunkWalk.{parts-finished, parts-broken, parts-chunk}
 use Rattle.format.proofs.ReaderSteps.{exactly}
-use Rattle.format.proofs.Verdicts.{known, stopped, then-same, then-then}
+use Rattle.format.proofs.Verdicts.{fine-with, stopped, then-same, then-then}
 use Rattle.format.proofs.Tiling.{none, no-chunk}
 use Rattle.wire.specs.declared.Refusal.{Refusal}
 use Rattle.wire.specs.declared.cursor.Cursor.{Cursor}
@@ -27,7 +27,7 @@ use Rattle.validate.specs.declared.counts.Totals.{Totals}
 use Rattle.validate.specs.declared.counts.Seen.{Seen}
 use Rattle.validate.specs.declared.chunks.StepResult.{StepResult}
 use Rattle.validate.specs.declared.chunks.ChunksResult.{ChunksResult}
-use Rattle.validate.specs.Contracts.{seenWith, nothingSeen, allOf, StepAt, totalsOf, ChunksJudged}
+use Rattle.validate.specs.Contracts.{seenWith, nothingSeen, allOf, OneMoreSeen, totalsOf, ChunksJudged}
 use Rattle.validate.proofs.FileCounts.{seenAfter, same-before, totals-are}
 
 -- ---- the walk
@@ -83,17 +83,17 @@ module _ {kind : Kind} {file : List ℕ} {at : ℕ} {seen : Seen} (w : CountedTo
       abbrev later-chunks : Chunks
       later-chunks = chunks (drop (next .at) file)
 
-      pub stop : {f : Refusal} {p : ℕ} → StepAt kind tag seen lent (StepResult.Stop f) → p ≡ placeOf at (f .at)
+      pub stop : {f : Refusal} {p : ℕ} → OneMoreSeen kind tag seen lent (StepResult.Stop f) → p ≡ placeOf at (f .at)
           → ChunksJudged kind file (ChunksResult.Refused (record { why = f .why; at = p }))
       stop {f} d place =
           let at-fault = stopped (judge kind before tag (drop 8 lent)) (λ part. seenWith seen (countedOf part)) (d .is) in
           let judged : judge kind before tag inside ≡ fault (f .why) (f .at) = rw (body h) at-fault in
           record { is = sym (w .is ∙ rw (front h, place) (walk-stops kind before at tag inside later-chunks (λ parts. seenAfter seen parts .totals) judged)) }
 
-      pub turn : {later : Seen} → StepAt kind tag seen lent (StepResult.Go later) → CountedTo kind file (next .at) later
+      pub turn : {later : Seen} → OneMoreSeen kind tag seen lent (StepResult.Go later) → CountedTo kind file (next .at) later
       unfolding seenAfter
       turn {later} d =
-          let k = known (judge kind before tag (drop 8 lent)) (λ part. seenWith seen (countedOf part)) (d .is) in
+          let k = fine-with (judge kind before tag (drop 8 lent)) (λ part. seenWith seen (countedOf part)) (d .is) in
           let judged : judge kind before tag inside ≡ fine (k .value) = rw (body h) (k .is) in
           let on = walk-on kind before at tag inside later-chunks (λ parts. seenAfter seen parts .totals) judged in
           let onward : rest kind file at seen ≡ rest kind file (next .at) (seenWith seen (countedOf (k .value))) =

@@ -10,6 +10,8 @@ use Rattle.format.specs.Bytes.{sum, joined}
 use Rattle.format.specs.Mesh.{Polygon, needs}
 use Rattle.format.specs.Bodies.{Part, pointList, nameList, polygonList, tagging, surface, skippedChunk}
 use Rattle.format.specs.Rules.{added, after, pointsOf, namesOf, skippedOf, detailsOf, from, tagged, polygonsIn, meshOf}
+use Rattle.format.specs.Contracts.{polygonsListed, vertexTotal}
+use Rattle.format.proofs.Facts.{sum-map-append}
 use Rattle.format.proofs.Tagging.{tagged-length, tagged-counts, from-counts}
 use Rattle.format.proofs.SizeBound.{things}
 use Rattle.validate_polygons.specs.Contracts.{sizesOf}
@@ -27,7 +29,7 @@ seenAfter seen (part ∷ parts) = seenAfter (seenWith seen (countedOf part)) par
 
 -- the lengths that the code keeps are those that the rules judge by
 pub same-before : (l : Lengths) (part : Part) → beforeOf (lengthsAfter l (countedOf part)) ≡ after (beforeOf l) part
-unfolding after countedOf sizesOf
+unfolding after countedOf sizesOf polygonsListed
 same-before l (pointList ps) = refl
 same-before l (nameList ns) = refl
 same-before l (polygonList ps n) = refl
@@ -38,7 +40,7 @@ same-before l skippedChunk = refl
 -- ---- all counts together
 
 pub weight-is : (part : Part) → weight (countedOf part) ≡ things part
-unfolding countedOf sizesOf things
+unfolding countedOf sizesOf polygonsListed added things
 weight-is (pointList ps) = refl
 weight-is (nameList ns) = refl
 weight-is (polygonList ps n) = refl
@@ -53,16 +55,6 @@ totals-grow t (Counted.Polygons z) = omega arith
 totals-grow t Counted.Nothing = omega arith
 totals-grow t Counted.Skipped = omega arith
 
--- ---- sums
-
-sum-append : {A : Type 0} (f : A → ℕ) (xs ys : List A) → sum (map f (xs ++ ys)) ≡ sum (map f xs) + sum (map f ys)
-unfolding sum
-sum-append f [] ys = omega arith
-sum-append f (x ∷ xs) ys = omega (arith, sum-append f xs ys)
-
-abbrev vertexTotal : List Polygon → ℕ
-vertexTotal ps = sum (map (λ p. length (p .vertices)) ps)
-
 -- ---- the totals
 
 -- The polygons of the latest POLS are counted already, and held back in `polygonsIn`.
@@ -76,7 +68,7 @@ record CountedFrom (parts : List Part) (base end : ℕ) (latest : List Polygon) 
   details : t′ .details ≡ t .details + sum (map detailsOf parts)
 
 counted-from : (parts : List Part) (seen : Seen) (base end : ℕ) (latest : List Polygon) → CountedFrom parts base end latest (seen .totals) (seenAfter seen parts .totals)
-unfolding seenAfter countedOf sizesOf added polygonsIn joined sum
+unfolding seenAfter countedOf sizesOf polygonsListed added polygonsIn joined sum
 counted-from [] seen base end latest = search finding
 counted-from (pointList ps ∷ parts) seen base end latest =
     let w = counted-from parts (seenWith seen (countedOf (pointList ps))) end (end + length ps) latest in
@@ -85,13 +77,13 @@ counted-from (pointList ps ∷ parts) seen base end latest =
 counted-from (nameList ns ∷ parts) seen base end latest =
     let w = counted-from parts (seenWith seen (countedOf (nameList ns))) base end latest in
     let long = length-append ns (joined (map namesOf parts)) in
-    let wide = sum-append length ns (joined (map namesOf parts)) in
+    let wide = sum-map-append length ns (joined (map namesOf parts)) in
     search finding
 counted-from (polygonList ps n ∷ parts) seen base end latest =
     let w = counted-from parts (seenWith seen (countedOf (polygonList ps n))) base end (map (from base) ps) in
     let all = polygonsIn base end (map (from base) ps) parts in
     let long = length-append latest all in
-    let wide = sum-append (λ (p : Polygon). length (p .vertices)) latest all in
+    let wide = sum-map-append (λ (p : Polygon). length (p .vertices)) latest all in
     let few = length-map ps (from base) in
     let narrow = from-counts base ps in
     search finding

@@ -9,7 +9,7 @@ use Rattle.format.specs.Items.{fine, fault, _andThen_}
 use Rattle.format.specs.Chunks.{chunks}
 use Rattle.format.specs.Rules.{start, form, walk, judged, partsOf}
 use Rattle.format.specs.Contracts.{walkParts, fileParts}
-use Rattle.format.proofs.Verdicts.{known, stopped}
+use Rattle.format.proofs.Verdicts.{fine-with, stopped}
 use Rattle.wire.specs.declared.Refusal.{Refusal}
 use Rattle.validate.specs.declared.counts.Totals.{Totals}
 use Rattle.validate.specs.declared.chunks.ChunksResult.{ChunksResult}
@@ -31,6 +31,6 @@ module _ {s : List ℕ} where
     pub counted : {t : Totals} → ChunksJudged kind s (ChunksResult.Counts t) → FileJudged s (FileResult.Counts kind t)
     unfolding judged walkParts _andThen_
     counted w =
-        let k = known (fileParts kind s) (totalsOf kind) (w .is) in
-        let l = known (walk kind start 12 (chunks (drop 12 s))) partsOf (sym (k .is)) in
+        let k = fine-with (fileParts kind s) (totalsOf kind) (w .is) in
+        let l = fine-with (walk kind start 12 (chunks (drop 12 s))) partsOf (sym (k .is)) in
         record { is = rw (← headed, l .is, l .shows, k .shows) }

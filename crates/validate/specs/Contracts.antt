@@ -67,7 +67,7 @@ Grown most (StepResult.Go later) = allOf (later .totals) ≤ most
 Grown most (StepResult.Stop f) = Unit
 
 -- a chunk after what was seen: it adds no more than it has bytes
-pub record StepAt (kind : Kind) (tag : ℕ) (seen : Seen) (s : List ℕ) (answer : StepResult) : Type 0 where
+pub record OneMoreSeen (kind : Kind) (tag : ℕ) (seen : Seen) (s : List ℕ) (answer : StepResult) : Type 0 where
   pub is : stepResultAs answer ≡ (judge kind (beforeOf (seen .lengths)) tag (drop 8 s) andThen λ part. fine (seenWith seen (countedOf part)))
   pub grown : Grown (allOf (seen .totals) + length s) answer
 

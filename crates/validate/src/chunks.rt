@@ -3,7 +3,7 @@ ghost use mathlib.Core.Path.{_≡_};
 ghost use Prim.Native.Nat.{_+_, _<_, _≤_, _^_};
 ghost use lib.ListN.{length};
 ghost use Rattle.format.specs.Refusals.{placeOf};
-ghost use Rattle.validate.specs.Contracts.{allOf, StepAt, ChunksJudged};
+ghost use Rattle.validate.specs.Contracts.{allOf, OneMoreSeen, ChunksJudged};
 use crate::counts::Seen;
 use crate::counts::Totals;
 use crate::counts::nothing_seen;
@@ -26,7 +26,7 @@ pub enum StepResult {
 // A chunk adds no more than it has bytes, so that no sum of the file's counts passes the file's length.
 fn step(s: &[u8], kind: Kind, tag: u32, seen: Seen) -> StepResult
     requires { ⌜ (8 ≤ length (now s)) × (allOf (seen .totals) + length (now s) < 2 ^ 64) ⌝ }
-    ensures { λ r. ⌜ StepAt kind tag seen (now (s .entry)) r ⌝ }
+    ensures { λ r. ⌜ OneMoreSeen kind tag seen (now (s .entry)) r ⌝ }
 {
     let lengths = seen.lengths;
     match judge(s, kind, tag, lengths) {

@@ -10,7 +10,7 @@ use Rattle.format.specs.Bytes.{if_then_else_, empty}
 use Rattle.format.specs.Items.{Verdict, fine, fault, Got, Reader, _andThen_, whole}
 use Rattle.format.specs.Contracts.{nothing, Judged}
 use Rattle.format.specs.Bodies.{Part, skippedChunk, pointsBody, namesBody, facesBody, patchesBody, polygonsBody, taggingBody, surfaceBody}
-use Rattle.format.specs.Rules.{when_read_}
+use Rattle.format.specs.Rules.{added, when_read_}
 use Rattle.format.proofs.PartByTag.{Makes, makes-points, makes-names, makes-faces, makes-patches, makes-polygons, makes-tagging, makes-surface}
 use Rattle.validate_lists.specs.Contracts.{pointCount, nameSizes}
 use Rattle.validate_polygons.specs.Contracts.{sizesOf}
@@ -23,11 +23,11 @@ pub record Adds {B : Type 0} (f : B → Counted) (h : Part → B) (r : Reader Pa
   pub each : Makes (λ part. countedOf part ≡ f (h part)) r
 
 pub adds-points : (kind : Kind) → Adds Counted.Points pointCount (pointsBody kind)
-unfolding countedOf pointCount
+unfolding countedOf added
 adds-points kind = record { each = makes-points _ kind (λ ps. refl) }
 
 pub adds-names : Adds (λ z. Counted.Names (z .0) (z .1)) nameSizes namesBody
-unfolding countedOf nameSizes
+unfolding countedOf added
 adds-names = record { each = makes-names _ (λ ns. refl) }
 
 module _ (points names : ℕ) where

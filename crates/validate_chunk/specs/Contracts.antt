@@ -6,7 +6,7 @@ use mathlib.Core.Bool.{_&&_}
 use mathlib.Core.Option.{Option, none, some}
 use lib.Dec.{eqb}
 use lib.ListN.{length, drop}
-use Rattle.format.specs.Bytes.{if_then_else_, sum}
+use Rattle.format.specs.Bytes.{if_then_else_, tagNumber, sum}
 use Rattle.format.specs.Items.{Verdict, fine, fault, _andThen_}
 use Rattle.format.specs.Bodies.{Part, pointList, nameList, polygonList, tagging, surface, skippedChunk, facesBody, patchesBody}
 use Rattle.format.specs.Rules.{Before, there, count, when_read_}
@@ -44,4 +44,4 @@ pub record CountsOf (judging : List ℕ → Verdict Part) (s : List ℕ) (answer
 abbrev pub lwobPolygons : Before → (tag : ℕ) → List ℕ → Verdict Part
 lwobPolygons b t =
     when there (b .points) && there (b .names)
-    read (if eqb t 0x504F_4C53 then facesBody (count (b .points)) (count (b .names)) else patchesBody (count (b .points)) (count (b .names)))
+    read (if eqb t (tagNumber "POLS") then facesBody (count (b .points)) (count (b .names)) else patchesBody (count (b .points)) (count (b .names)))

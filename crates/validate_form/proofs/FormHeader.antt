@@ -9,16 +9,14 @@ use borrow.Author.Tests.{lt-ltb, le-ltb, eq-eqb, ne-eqb}
 use Rattle.format.specs.declared.Kind.{Kind}
 use Rattle.format.specs.declared.Fault.{Fault}
 use Rattle.format.specs.declared.Fault.the-variants.{FileTooLong, NotForm, FormLength}
-use Rattle.format.specs.Bytes.{if_then_else_, _is_, number}
+use Rattle.format.specs.Bytes.{if_then_else_, number, tagNumber, _is_}
 use Rattle.format.specs.Items.{fine, fault, _andThen_}
 use Rattle.format.specs.Rules.{kindOf, form}
 
-form-tag : (w : ℕ) → w ≡ 0x464F524D → (w is "FORM") ≡ true
-unfolding number
+form-tag : (w : ℕ) → w ≡ tagNumber "FORM" → (w is "FORM") ≡ true
 form-tag w e = eq-eqb w _ e
 
-other-tag : (w : ℕ) → (w ≡ 0x464F524D → ⊥) → (w is "FORM") ≡ false
-unfolding number
+other-tag : (w : ℕ) → (w ≡ tagNumber "FORM" → ⊥) → (w is "FORM") ≡ false
 other-tag w ne = ne-eqb w _ ne
 
 module _ (s : List ℕ) where
@@ -32,11 +30,11 @@ module _ (s : List ℕ) where
     too-short h = rw (le-ltb 16777216 (length s) small, lt-ltb _ _ h)
 
     module _ (long : 12 ≤ length s) {w : ℕ} (tag : w ≡ number (take 4 s)) where
-      pub not-form : (w ≡ 0x464F524D → ⊥) → fault NotForm 0 ≡ form s
+      pub not-form : (w ≡ tagNumber "FORM" → ⊥) → fault NotForm 0 ≡ form s
       unfolding form
       not-form ne = rw (le-ltb 16777216 (length s) small, le-ltb (length s) 12 long, ← tag, other-tag w ne)
 
-      module _ (right : w ≡ 0x464F524D) {t : ℕ} (type : t ≡ number (take 4 (drop 8 s))) where
+      module _ (right : w ≡ tagNumber "FORM") {t : ℕ} (type : t ≡ number (take 4 (drop 8 s))) where
         opened : form s ≡ (kindOf t andThen λ kind. if eqb (number (take 4 (drop 4 s)) + 8) (length s) then fine kind else fault FormLength 0)
         unfolding form
         opened = rw (le-ltb 16777216 (length s) small, le-ltb (length s) 12 long, ← tag, form-tag w right, ← type)

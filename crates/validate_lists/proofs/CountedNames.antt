@@ -13,6 +13,7 @@ use Rattle.format.specs.Bytes.{sum}
 use Rattle.format.specs.Items.{fine, fault, _andThen_, _>>=_, give}
 use Rattle.format.specs.Mesh.{Name}
 use Rattle.format.specs.Bodies.{nameList, name, namesAfter, namesBody}
+use Rattle.format.specs.Rules.{added}
 use Rattle.format.specs.Contracts.{keep, itself, got, Says, Judged}
 use Rattle.format.proofs.ReaderSteps.{exactly, stopped, good, bad, cut, keep-keep, keep-same, used-up, faulty}
 use Rattle.wire.specs.declared.cursor.Cursor.{Cursor}
@@ -37,7 +38,7 @@ pair : {a a′ b b′ : ℕ} → a ≡ a′ → b ≡ b′ → _≡_ {A = ℕ ×
 pair e f = rw (e, f)
 
 pub begin : {s : List ℕ} → NamesCounted s 8 0 0
-unfolding namesBody _>>=_ nameSizes
+unfolding namesBody _>>=_ added
 begin {s} = record {
   few = omega arith;
   earlier = [];

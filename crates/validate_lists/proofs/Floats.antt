@@ -15,6 +15,7 @@ use Rattle.format.specs.Limits.{lwobPointLimit}
 use Rattle.format.specs.Items.{Verdict, fine, fault, Got, _>>=_, give, many, float}
 use Rattle.format.specs.Mesh.{Point}
 use Rattle.format.specs.Bodies.{pointList, point, wholePoints, pointsBody}
+use Rattle.format.specs.Rules.{added}
 use Rattle.format.specs.Contracts.{keep, itself, nothing, got, Says, Judged}
 use Rattle.format.proofs.Places.{uint-whole, float-is, float-bad}
 use Rattle.format.proofs.ReaderSteps.{on, off, given, right-length, used-up, faulty}
@@ -95,7 +96,7 @@ pub record ReadTo (s : List ℕ) (n at : ℕ) : Type 0 where
 
 module _ (kind : Kind) {s : List ℕ} {n : ℕ} {b : Bool} (size : n ≡ length s - 8) (is : b ≡ wholePoints kind n) (e : b ≡ true) where
   pub begin : ReadTo s n 8
-  unfolding pointCount
+  unfolding added
   begin = record {
     size = size;
     twelves = whole-twelves kind n (sym is ∙ e);

@@ -9,20 +9,16 @@ use Rattle.format.specs.declared.Fault.the-variants.{NotFinite}
 use Rattle.format.specs.Bytes.{if_then_else_, sum, amongst}
 use Rattle.format.specs.Items.{Verdict, fine, fault, string}
 use Rattle.format.specs.Mesh.{Name}
-use Rattle.format.specs.Bodies.{Part, pointList, nameList, polygonList, tagging, surface, skippedChunk, point, newName}
+use Rattle.format.specs.Bodies.{Part, point, newName}
+use Rattle.format.specs.Rules.{pointsOf, namesOf}
 use Rattle.format.specs.Contracts.{got, itself, nothing, Says}
 use Rattle.validate_lists.specs.declared.points.Points.{Points}
 use Rattle.validate_lists.specs.declared.names.Names.{Names}
 
 -- ---- points
 
-unfoldable pub pointCount : Part → ℕ
-pointCount (pointList ps) = length ps
-pointCount (nameList ns) = 0
-pointCount (polygonList ps n) = 0
-pointCount (tagging t ts) = 0
-pointCount (surface s) = 0
-pointCount skippedChunk = 0
+abbrev pub pointCount : Part → ℕ
+pointCount part = length (pointsOf part)
 
 abbrev pub pointsAs : Points → Verdict ℕ
 pointsAs (Points.Got n) = fine n
@@ -36,13 +32,8 @@ pub record PointAt (s : List ℕ) (at r : ℕ) : Type 0 where
 -- ---- names
 
 -- how many, and how many bytes they have
-unfoldable pub nameSizes : Part → ℕ × ℕ
-nameSizes (pointList ps) = (0, 0)
-nameSizes (nameList ns) = (length ns, sum (map length ns))
-nameSizes (polygonList ps n) = (0, 0)
-nameSizes (tagging t ts) = (0, 0)
-nameSizes (surface s) = (0, 0)
-nameSizes skippedChunk = (0, 0)
+abbrev pub nameSizes : Part → ℕ × ℕ
+nameSizes part = (length (namesOf part), sum (map length (namesOf part)))
 
 abbrev pub namesAs : Names → Verdict (ℕ × ℕ)
 namesAs (Names.Got n b) = fine (n, b)

@@ -9,12 +9,14 @@ use lib.ListN.{length, drop}
 use Rattle.format.specs.declared.Fault.{Fault}
 use Rattle.format.specs.Bytes.{sum}
 use Rattle.format.specs.Items.{fine, fault}
-use Rattle.format.specs.Contracts.{keep, got, Keeps, JudgedAt}
+use Rattle.format.specs.Rules.{added}
+use Rattle.format.specs.Contracts.{keep, got, Keeps, JudgedAt, polygonsListed}
 use Rattle.format.proofs.ReaderSteps.{used-up, faulty}
 use Rattle.format.proofs.Entries.{ManyLoop, many-begin, many-turn, many-stop, many-end}
-use Rattle.validate_polygons.specs.declared.entries.Layout.{Layout}
+use Rattle.polygon_layouts.specs.declared.Layout.{Layout}
+use Rattle.polygon_layouts.specs.Layouts.{EntryOf, entryOf, partOf, entriesOf}
 use Rattle.validate_polygons.specs.declared.entries.Sizes.{Sizes}
-use Rattle.validate_polygons.specs.Contracts.{EntryOf, entryOf, entrySizes, entryBytes, partOf, entriesOf, noSizes, sizesOf}
+use Rattle.validate_polygons.specs.Contracts.{entrySizes, entryBytes, sizesOf}
 
 -- more polygons, with their vertices and details
 abbrev more : (p v d : ℕ) → Sizes → Sizes
@@ -25,15 +27,15 @@ same : {p p′ v v′ d d′ : ℕ} → p ≡ p′ → v ≡ v′ → d ≡ d′
 same e f g = rw (e, f, g)
 
 -- what no entry makes, and what one more adds
-none : (l : Layout) → sizesOf (partOf l []) ≡ noSizes
-unfolding sizesOf sum
+none : (l : Layout) → sizesOf (partOf l []) ≡ record { polygons = 0; vertices = 0; details = 0 }
+unfolding sizesOf added polygonsListed sum
 none Layout.Faces = refl
 none Layout.Patches = refl
 none (Layout.Polygons kind) = refl
 
 adds : (l : Layout) (x : EntryOf l) (xs : List (EntryOf l))
     → sizesOf (partOf l (x ∷ xs)) ≡ more 1 (entrySizes l x .0) (entrySizes l x .1) (sizesOf (partOf l xs))
-unfolding sizesOf sum
+unfolding sizesOf added polygonsListed sum
 adds Layout.Faces x xs = rw one-add
 adds Layout.Patches x xs = rw one-add
 adds (Layout.Polygons kind) x xs = rw one-add

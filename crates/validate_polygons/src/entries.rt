@@ -1,18 +1,13 @@
 // The polygons of a body, counted one after another. The three chunks that hold polygons differ in how an entry is laid out, and in nothing else.
 ghost use Rattle.format.specs.Contracts.{Keeps, JudgedAt};
-ghost use Rattle.validate_polygons.specs.Contracts.{entryOf, entrySizes, entryBytes, entryAs, entriesOf, sizesOf, polygonsAs};
+ghost use Rattle.polygon_layouts.specs.Layouts.{entryOf, entriesOf};
+ghost use Rattle.validate_polygons.specs.Contracts.{entrySizes, entryBytes, entryAs, sizesOf, polygonsAs};
 use crate::faces::face;
 use crate::patches::patch;
 use crate::polygons::polygon;
+use polygon_layouts::Layout;
 use wire::Refusal;
 use wire::cursor::Cursor;
-
-// Faces and patches of an LWOB file, and the polygons of an LWO2 file, which are all of one kind.
-pub enum Layout {
-    Faces,
-    Patches,
-    Polygons(u32),
-}
 
 // One polygon: how many vertices it has, and how many details go with it.
 pub enum Entry {

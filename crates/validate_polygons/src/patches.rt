@@ -3,13 +3,13 @@ ghost use Rattle.format.specs.Bodies.{patch, patchesBody};
 ghost use Rattle.format.specs.Contracts.{Keeps, Judged};
 ghost use Rattle.validate_polygons.specs.Contracts.{polygonSizes, entryBytes, entryAs, sizesOf, polygonsAs};
 use crate::entries::Entry;
-use crate::entries::Layout;
 use crate::entries::Polygons;
 use crate::entries::entries;
 use format::Fault;
-use validate_vertices::lwob_entry::LwobEntry;
-use validate_vertices::lwob_entry::in_name_list;
-use validate_vertices::lwob_entry::lwob_entry_at;
+use polygon_layouts::Layout;
+use polygon_vertices::lwob_entry::LwobEntry;
+use polygon_vertices::lwob_entry::in_name_list;
+use polygon_vertices::lwob_entry::lwob_entry_at;
 use wire::Refusal;
 use wire::cursor::Cursor;
 

@@ -1,16 +1,17 @@
 // The body of a POLS chunk of an LWO2 file.
 ghost use mathlib.Core.Path.{_≡_};
-ghost use Rattle.format.specs.Bodies.{polygon, polygonType, polygonKind, polygonsBody};
+ghost use Rattle.format.specs.Bodies.{polygonType, polygonsBody};
 ghost use Rattle.format.specs.Contracts.{Judged};
 ghost use Rattle.validate_polygons.specs.Contracts.{PolygonAt, sizesOf, polygonsAs};
 use crate::entries::Entry;
-use crate::entries::Layout;
 use crate::entries::Polygons;
 use crate::entries::entries;
 use format::Fault;
 use format::tags::FACE;
 use format::tags::PTCH;
-use validate_vertices::vertices::lwo2_vertices;
+use polygon_layouts::Layout;
+use polygon_layouts::polygon_kind;
+use polygon_vertices::vertices::lwo2_vertices;
 use wire::Refusal;
 use wire::Run;
 use wire::cursor::Cursor;
@@ -21,13 +22,6 @@ fn polygon_type(t: u32) -> bool
     ensures { λ r. ⌜ r ≡ polygonType t ⌝ }
 {
     (t == FACE) | (t == PTCH)
-}
-
-// The kind of the polygons of a type: 1 for faces and 2 for patches.
-pub fn polygon_kind(t: u32) -> u32
-    ensures { λ r. ⌜ r ≡ polygonKind t ⌝ }
-{
-    if t == FACE { 1 } else { 2 }
 }
 
 // A polygon of any kind: it has no surface number and no details of its own.

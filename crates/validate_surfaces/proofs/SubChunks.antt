@@ -12,7 +12,7 @@ use Rattle.format.specs.declared.Kind.the-variants.{LWOB, LWO2}
 use Rattle.format.specs.declared.Container.{Container}
 use Rattle.format.specs.declared.Container.the-variants.{Surf, Blok, Attributes}
 use Rattle.format.specs.declared.Fault.the-variants.{BadHeader, StringOpen, SurfaceValue}
-use Rattle.format.specs.Bytes.{spelt, number, joined}
+use Rattle.format.specs.Bytes.{tagNumber, number, joined}
 use Rattle.format.specs.Items.{Verdict, Got, fine, fault, _andThen_, _>>=_, give, Reader, whole}
 use Rattle.format.specs.Chunks.{sub, unjudged}
 use Rattle.format.specs.Surfaces.{Value as Words, valueOf, attribute, blockType, blockHeader, block, held, nested}
@@ -47,12 +47,12 @@ first-is head blok l = by (eqb (head - 6) blok) refl
     by false e = sym (ne-eqb head (blok + 6) (λ q. eqb-false (head - 6) blok e (omega arith)))
 
 module _ {head : ℕ} {s : List ℕ} where
-  pub map-holds : (tag : ℕ) → tag ≡ number (spelt "TMAP")
+  pub map-holds : (tag : ℕ) → tag ≡ tagNumber "TMAP"
       → BodyAt (λ inner. attribute inner tag) head s (Body.Holds (record { at = head + 6 }) Attributes)
   unfolding attribute number
   map-holds tag e = record { judged = λ inner. record { is = rw e } }
 
-  pub not-map : (tag : ℕ) → (tag ≡ number (spelt "TMAP") → ⊥) → head + 6 ≤ length s → BodyAt (λ inner. attribute inner tag) head s Body.Judged
+  pub not-map : (tag : ℕ) → (tag ≡ tagNumber "TMAP" → ⊥) → head + 6 ≤ length s → BodyAt (λ inner. attribute inner tag) head s Body.Judged
   unfolding attribute number
   not-map tag e fits = record { judged = λ inner. rw (ne-eqb tag _ e) (used-up (part (not-judged [] fits) (λ x q. refl)) (omega arith)) }
 
@@ -106,11 +106,11 @@ module _ {head : ℕ} {s : List ℕ} where
     unfolding held
     held-lwob b = record { judged = b .judged }
 
-    pub held-block : tag ≡ number (spelt "BLOK") → BodyAt block head s answer → HeldAt (Surf LWO2) tag head s answer
+    pub held-block : tag ≡ tagNumber "BLOK" → BodyAt block head s answer → HeldAt (Surf LWO2) tag head s answer
     unfolding held number
     held-block e b = record { judged = λ inner. rw e (b .judged inner) }
 
-    pub held-lwo2 : (tag ≡ number (spelt "BLOK") → ⊥) → BodyAt (λ inner. valueOf LWO2 tag) head s answer → HeldAt (Surf LWO2) tag head s answer
+    pub held-lwo2 : (tag ≡ tagNumber "BLOK" → ⊥) → BodyAt (λ inner. valueOf LWO2 tag) head s answer → HeldAt (Surf LWO2) tag head s answer
     unfolding held number
     held-lwo2 e b = record { judged = λ inner. rw (ne-eqb tag _ e) (b .judged inner) }
 

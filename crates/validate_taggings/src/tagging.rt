@@ -1,8 +1,7 @@
 // The body of a PTAG chunk.
 ghost use Rattle.format.specs.Bodies.{pair, taggingBody};
-ghost use Rattle.format.specs.Contracts.{nothing, Judged, JudgedAt};
+ghost use Rattle.format.specs.Contracts.{nothing, Judged, JudgedAt, taggingPairs};
 ghost use Rattle.wire.specs.Contracts.{StepAt, checkedAs};
-ghost use Rattle.validate_taggings.specs.Contracts.{pairsOf};
 use format::Fault;
 use format::tags::SURF;
 use wire::Checked;
@@ -49,7 +48,7 @@ fn one_pair(s: &[u8], c: Cursor, polygons: usize, names: usize) -> Step
 
 // The pairs from a place up to the body's end.
 fn pairs(s: &[u8], from: Cursor, polygons: usize, names: usize) -> Checked
-    ensures { λ r. ⌜ JudgedAt 0 (from .at) (pairsOf polygons names) nothing (now (s .entry)) (checkedAs r) ⌝ }
+    ensures { λ r. ⌜ JudgedAt 0 (from .at) (taggingPairs polygons names) nothing (now (s .entry)) (checkedAs r) ⌝ }
 {
     let mut at = from.at;
     while at < s.len() {

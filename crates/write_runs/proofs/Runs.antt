@@ -7,39 +7,36 @@ use native.Mathlib.Omega.{arith}
 use lib.Dec.{eqb, ltb}
 use lib.ListN.{length, take, drop, length-append}
 use borrow.Author.Tests.{eq-eqb, ne-eqb}
-use Rattle.format.specs.Bytes.{if_then_else_, spelt, all, sum, joined}
+use Rattle.format.specs.Bytes.{number, tagNumber, if_then_else_, spelt, all, sum, joined}
 use Rattle.format.specs.Mesh.{Polygon, word, polygonSize}
 use Rattle.format.specs.Canonical.{bytes, vxBytes, chunkBytes, polygonBytes, typeOf, pairsOf, pairBytes, runs, unlessEmpty, runChunks, encoded}
 use Rattle.format.specs.Written.{vertexCounts}
 use Rattle.format.proofs.Puts.{joined-map-append}
 use Rattle.format.proofs.Facts.{all-part, all-first, all-rest}
 use Rattle.format.proofs.CanonicalLengths.{length-bytes}
-use Rattle.mesh.specs.Lent.{entryAt, column, polygonsOf}
-use Rattle.mesh.specs.Polygons.{runEnd}
+use Rattle.mesh.specs.Lent.{entryAt, column, meshPolygons}
+use Rattle.mesh.specs.Polygons.{runEnd, pairsFrom}
 use Rattle.mesh.proofs.Entries.{polygons-at}
 use Rattle.mesh.proofs.RunWalk as run-walk
 use Rattle.mesh.proofs.RunWalk.{RunWalk}
 use Rattle.output.specs.Outputs.{Wrote, chunksBytes}
-use Rattle.lengths.specs.Sizes.{pairsFrom}
 use Rattle.write_runs.specs.Runs.{unlessNoBytes, Indexed, RunLent}
-use Rattle.lengths.proofs.ItemLengths.{some-pairs}
 use Rattle.output.proofs.PutSoFar as bytes-put
-use Rattle.output.proofs.PutSoFar.{PutSoFar, First}
+use Rattle.output.proofs.PutSoFar.{PutSoFar, NextPart}
 use Rattle.output.proofs.Parts.{in-two}
 use Rattle.output.proofs.Chunks.{BodyFirst, chunk-is}
-use Rattle.lengths.proofs.Pairs.{pairs-are}
+use Rattle.mesh.proofs.Pairs.{some-pairs, pairs-are}
 use Rattle.mesh.proofs.Runs.{surfaces}
-use Rattle.lengths.proofs.RunLengths.{surfaceOf}
 
 -- ---- one run
 
 abbrev pub polsBody : (run vs : List ℕ) → List ℕ
-polsBody run vs = spelt (typeOf (word 0 (entryAt polygonSize 0 run))) ++ joined (map polygonBytes (polygonsOf run vs))
+polsBody run vs = spelt (typeOf (word 0 (entryAt polygonSize 0 run))) ++ joined (map polygonBytes (meshPolygons run vs))
 
 pub pols : (run vs : List ℕ) {t : List ℕ} {at : ℕ} → at + length (chunkBytes 4 "POLS" (polsBody run vs)) ≤ length t
-    → BodyFirst (chunkBytes 4 "POLS" (polsBody run vs)) 0x504F4C53 (polsBody run vs) t at
-unfolding bytes
-pols run vs fits = record { is = chunk-is 4 0x504F4C53 "POLS" (polsBody run vs) refl; fits = fits }
+    → BodyFirst (chunkBytes 4 "POLS" (polsBody run vs)) (tagNumber "POLS") (polsBody run vs) t at
+unfolding bytes number
+pols run vs fits = record { is = chunk-is 4 (tagNumber "POLS") "POLS" (polsBody run vs) refl; fits = fits }
 
 module _ (entries : List ℕ) where
   pub no-ptag : length entries ≡ 0 → unlessNoBytes "PTAG" "SURF" entries ≡ []
@@ -49,9 +46,9 @@ module _ (entries : List ℕ) where
   some-ptag some = rw (ne-eqb (length entries) 0 some)
 
   pub ptag : {t : List ℕ} {at : ℕ} → (length entries ≡ 0 → ⊥) → at + length (unlessNoBytes "PTAG" "SURF" entries) ≤ length t
-      → BodyFirst (unlessNoBytes "PTAG" "SURF" entries) 0x50544147 (spelt "SURF" ++ entries) t at
-  unfolding bytes
-  ptag some fits = record { is = some-ptag some ∙ chunk-is 4 0x50544147 "PTAG" (spelt "SURF" ++ entries) refl; fits = fits }
+      → BodyFirst (unlessNoBytes "PTAG" "SURF" entries) (tagNumber "PTAG") (spelt "SURF" ++ entries) t at
+  unfolding bytes number
+  ptag some fits = record { is = some-ptag some ∙ chunk-is 4 (tagNumber "PTAG") "PTAG" (spelt "SURF" ++ entries) refl; fits = fits }
 
 -- a run has pairs where some of its polygons have a surface
 pub no-pairs : (i : ℕ) (ss : List ℕ) → all (λ s. eqb s 0) ss ≡ true → length (pairsFrom i ss) ≡ 0
@@ -77,7 +74,7 @@ by-pairs [] = refl
 by-pairs (t ∷ ts) = append-nil (chunkBytes 4 "PTAG" (spelt "SURF" ++ joined (map pairBytes (t ∷ ts)))) ∙ sym (some-ptag (joined (map pairBytes (t ∷ ts))) (some-pairs t ts))
 
 both-chunks : (ps : List Polygon) (p : Polygon) (r : List Polygon) → ps ≡ p ∷ r
-    → chunksBytes (runChunks ps) ≡ chunkBytes 4 "POLS" (spelt (typeOf (p .kind)) ++ joined (map polygonBytes ps)) ++ unlessNoBytes "PTAG" "SURF" (pairsFrom 0 (map surfaceOf ps))
+    → chunksBytes (runChunks ps) ≡ chunkBytes 4 "POLS" (spelt (typeOf (p .kind)) ++ joined (map polygonBytes ps)) ++ unlessNoBytes "PTAG" "SURF" (pairsFrom 0 (map (λ p. p .surface) ps))
 unfolding runChunks unlessEmpty joined
 both-chunks ps p r are =
     rw are
@@ -85,9 +82,9 @@ both-chunks ps p r are =
     ∙ rw (append-nil (chunkBytes 4 "POLS" (spelt (typeOf (p .kind)) ++ joined (map polygonBytes (p ∷ r)))), by-pairs (pairsOf 0 (p ∷ r)), pairs-are 0 (p ∷ r)))
 
 pub run-chunks-are : (run vs : List ℕ) → polygonSize ≤ length run
-    → chunksBytes (runChunks (polygonsOf run vs)) ≡ joined (chunkBytes 4 "POLS" (polsBody run vs) ∷ unlessNoBytes "PTAG" "SURF" (pairsFrom 0 (column polygonSize 2 run)) ∷ [])
+    → chunksBytes (runChunks (meshPolygons run vs)) ≡ joined (chunkBytes 4 "POLS" (polsBody run vs) ∷ unlessNoBytes "PTAG" "SURF" (pairsFrom 0 (column polygonSize 2 run)) ∷ [])
 run-chunks-are run vs some =
-    rw (surfaces run vs) at (both-chunks (polygonsOf run vs) _ _ (polygons-at 0 0 run vs (omega arith))) ∙ in-two (chunkBytes 4 "POLS" (polsBody run vs)) (unlessNoBytes "PTAG" "SURF" (pairsFrom 0 (column polygonSize 2 run)))
+    rw (surfaces run vs) at (both-chunks (meshPolygons run vs) _ _ (polygons-at 0 0 run vs (omega arith))) ∙ in-two (chunkBytes 4 "POLS" (polsBody run vs)) (unlessNoBytes "PTAG" "SURF" (pairsFrom 0 (column polygonSize 2 run)))
 
 -- ---- all runs
 
@@ -96,13 +93,13 @@ chunksOf rs = chunksBytes (joined (map runChunks rs))
 
 pub record RunsPut (ws vs t : List ℕ) (at : ℕ) (t′ : List ℕ) (next entry first : ℕ) : Type 0 where
   pub small : all (λ v. ltb v (2 ^ 24)) vs ≡ true
-  pub walk : RunWalk ws vs (λ rs. PutSoFar (chunksOf (runs (polygonsOf ws vs))) (chunksOf rs) t at t′ next) entry first
+  pub walk : RunWalk ws vs (λ rs. PutSoFar (chunksOf (runs (meshPolygons ws vs))) (chunksOf rs) t at t′ next) entry first
 
-pub begin : {ws vs t : List ℕ} {at : ℕ} → Indexed ws vs → at + length (chunksOf (runs (polygonsOf ws vs))) ≤ length t → RunsPut ws vs t at t at 0 0
+pub begin : {ws vs t : List ℕ} {at : ℕ} → Indexed ws vs → at + length (chunksOf (runs (meshPolygons ws vs))) ≤ length t → RunsPut ws vs t at t at 0 0
 begin lent fits = record { small = lent .small; walk = run-walk.begin (lent .lent) (bytes-put.begin fits) }
 
 module _ {ws vs t t′ : List ℕ} {at next entry first : ℕ} (w : RunsPut ws vs t at t′ next entry first) where
-  pub end : length ws - entry < polygonSize → Wrote t at (chunksOf (runs (polygonsOf ws vs))) t′ next
+  pub end : length ws - entry < polygonSize → Wrote t at (chunksOf (runs (meshPolygons ws vs))) t′ next
   unfolding joined
   end short = bytes-put.end (run-walk.end (w .walk) short) refl
 
@@ -115,17 +112,17 @@ module _ {ws vs t t′ : List ℕ} {at next entry first : ℕ} (w : RunsPut ws v
     own = take (first + n - first) (drop first vs)
 
     abbrev others : List (List Polygon)
-    others = runs (polygonsOf (drop to ws) (drop (first + n) vs))
+    others = runs (meshPolygons (drop to ws) (drop (first + n) vs))
 
-    one : First (chunksOf (polygonsOf run own ∷ others)) (chunksBytes (runChunks (polygonsOf run own))) (chunksOf others)
+    one : NextPart (chunksOf (meshPolygons run own ∷ others)) (chunksBytes (runChunks (meshPolygons run own))) (chunksOf others)
     unfolding joined
-    one = record { is = joined-map-append encoded (runChunks (polygonsOf run own)) _ }
+    one = record { is = joined-map-append encoded (runChunks (meshPolygons run own)) _ }
 
-    pub run-room : RunLent run own × (next + length (chunksBytes (runChunks (polygonsOf run own))) ≤ length t′)
+    pub run-room : RunLent run own × (next + length (chunksBytes (runChunks (meshPolygons run own))) ≤ length t′)
     run-room =
         let l = run-walk.run-lent (w .walk) fits to-is count in
         let small = all-part (λ v. ltb v (2 ^ 24)) vs first (first + n - first) (w .small) in
         (record { indexed = record { lent = l .0; small = small }; some = l .1 }, bytes-put.room (run-walk.here (w .walk) fits to-is count) one)
 
-    pub turn : {t″ : List ℕ} {last : ℕ} → Wrote t′ next (chunksBytes (runChunks (polygonsOf run own))) t″ last → RunsPut ws vs t at t″ last to (first + n)
+    pub turn : {t″ : List ℕ} {last : ℕ} → Wrote t′ next (chunksBytes (runChunks (meshPolygons run own))) t″ last → RunsPut ws vs t at t″ last to (first + n)
     turn v = record { small = w .small; walk = run-walk.turn (w .walk) fits to-is count (bytes-put.turn (run-walk.here (w .walk) fits to-is count) one v) }

@@ -10,9 +10,9 @@ use Rattle.format.specs.Bytes.{if_then_else_, spelt, all, sum, joined}
 use Rattle.format.specs.Mesh.{polygonSize}
 use Rattle.format.specs.Canonical.{bytes, vxBytes, chunkBytes, polygonBytes}
 use Rattle.format.specs.Written.{vertexCounts}
-use Rattle.mesh.specs.Lent.{polygonsOf}
+use Rattle.mesh.specs.Lent.{meshPolygons}
 use Rattle.mesh.specs.Polygons.{PolygonsLent}
-use Rattle.output.specs.Outputs.{total}
+use Rattle.format.specs.Contracts.{total}
 
 -- a chunk that is left out where its entries have no bytes
 abbrev pub unlessNoBytes : (tag type : String) → List ℕ → List ℕ
@@ -33,7 +33,7 @@ pub record RunLent (run vertices : List ℕ) : Type 0 where
   pub some : polygonSize ≤ length run
 
 -- polygons with their vertices, whose indices have 24 bits, and room for what they are written as
-pub record PolygonsRoom (out : List ℕ) (at : ℕ) (polygons vertices : List ℕ) : Type 0 where
+pub record PolsRoom (out : List ℕ) (at : ℕ) (polygons vertices : List ℕ) : Type 0 where
   pub agree : sum (vertexCounts polygons) ≡ length vertices
   pub small : all (λ v. ltb v (2 ^ 24)) vertices ≡ true
-  pub room : at + total polygonBytes (polygonsOf polygons vertices) ≤ length out
+  pub room : at + total polygonBytes (meshPolygons polygons vertices) ≤ length out

@@ -7,9 +7,9 @@ ghost use Rattle.format.specs.Bytes.{spelt, joined};
 ghost use Rattle.format.specs.Limits.{entryLimit};
 ghost use Rattle.format.specs.Mesh.{word, polygonSize};
 ghost use Rattle.format.specs.Canonical.{bytes, chunkBytes, polygonBytes, typeOf, runs, runChunks};
-ghost use Rattle.mesh.specs.Lent.{entryAt, column, polygonsOf};
+ghost use Rattle.mesh.specs.Lent.{entryAt, column, meshPolygons};
+ghost use Rattle.mesh.specs.Polygons.{pairsFrom};
 ghost use Rattle.output.specs.Outputs.{Wrote, chunksBytes};
-ghost use Rattle.lengths.specs.Sizes.{pairsFrom};
 ghost use Rattle.write_runs.specs.Runs.{unlessNoBytes, Indexed, RunLent};
 use crate::pairs::no_surfaces;
 use crate::pairs::put_pairs;
@@ -37,8 +37,8 @@ fn type_of(kind: u32) -> u32
 
 // The polygons of a run have one kind, which is that of the first.
 fn put_pols(out: &mut [u8], at: usize, run: &[u32], vertices: &[u32]) -> usize
-    requires { ⌜ RunLent (now run) (now vertices) × (at + length (chunkBytes 4 "POLS" (spelt (typeOf (word 0 (entryAt polygonSize 0 (now run)))) ++ joined (map polygonBytes (polygonsOf (now run) (now vertices))))) ≤ length (now out)) ⌝ }
-    ensures { λ r. ⌜ Wrote (now (out .entry)) at (chunkBytes 4 "POLS" (spelt (typeOf (word 0 (entryAt polygonSize 0 (now (run .entry))))) ++ joined (map polygonBytes (polygonsOf (now (run .entry)) (now (vertices .entry)))))) (now (out .exit)) r ⌝ }
+    requires { ⌜ RunLent (now run) (now vertices) × (at + length (chunkBytes 4 "POLS" (spelt (typeOf (word 0 (entryAt polygonSize 0 (now run)))) ++ joined (map polygonBytes (meshPolygons (now run) (now vertices))))) ≤ length (now out)) ⌝ }
+    ensures { λ r. ⌜ Wrote (now (out .entry)) at (chunkBytes 4 "POLS" (spelt (typeOf (word 0 (entryAt polygonSize 0 (now (run .entry))))) ++ joined (map polygonBytes (meshPolygons (now (run .entry)) (now (vertices .entry)))))) (now (out .exit)) r ⌝ }
 {
     let first = put_u4(out, at + 8, type_of(kind(run, 0)));
     let end = put_polygons(out, first, run, vertices);
@@ -59,16 +59,16 @@ fn put_ptag(out: &mut [u8], at: usize, run: &[u32]) -> usize
 }
 
 fn put_run(out: &mut [u8], at: usize, run: &[u32], vertices: &[u32]) -> usize
-    requires { ⌜ RunLent (now run) (now vertices) × (at + length (chunksBytes (runChunks (polygonsOf (now run) (now vertices)))) ≤ length (now out)) ⌝ }
-    ensures { λ r. ⌜ Wrote (now (out .entry)) at (chunksBytes (runChunks (polygonsOf (now (run .entry)) (now (vertices .entry))))) (now (out .exit)) r ⌝ }
+    requires { ⌜ RunLent (now run) (now vertices) × (at + length (chunksBytes (runChunks (meshPolygons (now run) (now vertices)))) ≤ length (now out)) ⌝ }
+    ensures { λ r. ⌜ Wrote (now (out .entry)) at (chunksBytes (runChunks (meshPolygons (now (run .entry)) (now (vertices .entry))))) (now (out .exit)) r ⌝ }
 {
     let next = put_pols(out, at, run, vertices);
     put_ptag(out, next, run)
 }
 
 pub fn put_runs(out: &mut [u8], at: usize, polygons: &[u32], vertices: &[u32]) -> usize
-    requires { ⌜ Indexed (now polygons) (now vertices) × (at + length (chunksBytes (joined (map runChunks (runs (polygonsOf (now polygons) (now vertices)))))) ≤ length (now out)) ⌝ }
-    ensures { λ r. ⌜ Wrote (now (out .entry)) at (chunksBytes (joined (map runChunks (runs (polygonsOf (now (polygons .entry)) (now (vertices .entry))))))) (now (out .exit)) r ⌝ }
+    requires { ⌜ Indexed (now polygons) (now vertices) × (at + length (chunksBytes (joined (map runChunks (runs (meshPolygons (now polygons) (now vertices)))))) ≤ length (now out)) ⌝ }
+    ensures { λ r. ⌜ Wrote (now (out .entry)) at (chunksBytes (joined (map runChunks (runs (meshPolygons (now (polygons .entry)) (now (vertices .entry))))))) (now (out .exit)) r ⌝ }
 {
     let mut next = at;
     let mut entry = 0;

@@ -8,7 +8,7 @@ ghost use Rattle.format.specs.Limits.{entryLimit};
 ghost use Rattle.format.specs.Mesh.{polygonSize};
 ghost use Rattle.mesh.specs.Lent.{column};
 ghost use Rattle.output.specs.Outputs.{Wrote};
-ghost use Rattle.lengths.specs.Sizes.{pairOf, pairsFrom};
+ghost use Rattle.mesh.specs.Polygons.{pairOf, pairsFrom};
 use format::POLYGON_WORDS;
 use mesh::polygons::surface;
 use output::items::put_u2;

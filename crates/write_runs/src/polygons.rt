@@ -7,9 +7,9 @@ ghost use lib.Dec.{ltb};
 ghost use lib.ListN.{length};
 ghost use Rattle.format.specs.Bytes.{all, joined};
 ghost use Rattle.format.specs.Canonical.{polygonBytes};
-ghost use Rattle.mesh.specs.Lent.{polygonsOf};
+ghost use Rattle.mesh.specs.Lent.{meshPolygons};
 ghost use Rattle.output.specs.Outputs.{Wrote};
-ghost use Rattle.write_runs.specs.Runs.{verticesBytes, PolygonsRoom};
+ghost use Rattle.write_runs.specs.Runs.{verticesBytes, PolsRoom};
 use format::POLYGON_WORDS;
 use mesh::polygons::polygon_at;
 use output::items::put_u2;
@@ -25,8 +25,8 @@ fn put_polygon(out: &mut [u8], at: usize, vertices: &[u32]) -> usize
 }
 
 pub fn put_polygons(out: &mut [u8], at: usize, polygons: &[u32], vertices: &[u32]) -> usize
-    requires { ⌜ PolygonsRoom (now out) at (now polygons) (now vertices) ⌝ }
-    ensures { λ r. ⌜ Wrote (now (out .entry)) at (joined (map polygonBytes (polygonsOf (now (polygons .entry)) (now (vertices .entry))))) (now (out .exit)) r ⌝ }
+    requires { ⌜ PolsRoom (now out) at (now polygons) (now vertices) ⌝ }
+    ensures { λ r. ⌜ Wrote (now (out .entry)) at (joined (map polygonBytes (meshPolygons (now (polygons .entry)) (now (vertices .entry))))) (now (out .exit)) r ⌝ }
 {
     let mut next = at;
     let mut entry = 0;

@@ -9,14 +9,14 @@ use lib.Dec.{eqb}
 use lib.ListN.{length, getD, take, drop, length-append, length-drop}
 use lib.Seq.{length-take-le}
 use borrow.Author.Tests.{eq-eqb, ne-eqb}
-use Rattle.format.specs.Bytes.{if_then_else_, sum, joined}
+use Rattle.format.specs.Bytes.{number, tagNumber, if_then_else_, sum, joined}
 use Rattle.format.specs.Mesh.{Name, Surface, recordSize, surfaceFrom, surfaceWords}
 use Rattle.format.specs.Canonical.{bytes, vxBytes, stringBytes, chunkBytes, levelBytes, surfaceBytes, surfaceChunks, encoded}
 use Rattle.format.specs.Written.{pieces}
 use Rattle.format.proofs.Puts.{joined-map-append}
-use Rattle.format.proofs.Facts.{length-entries}
+use Rattle.format.proofs.Facts.{length-each}
 use Rattle.format.proofs.CanonicalLengths.{length-bytes}
-use Rattle.mesh.specs.Lent.{surfacesOf}
+use Rattle.mesh.specs.Lent.{meshSurfaces}
 use Rattle.format.proofs.Indexed.{past-end}
 use Rattle.mesh.proofs.Records.{words-back}
 use Rattle.format.proofs.Indexed.{part}
@@ -24,9 +24,9 @@ use Rattle.format.proofs.Indexed.{pieces-at, sum-index}
 use Rattle.mesh.proofs.Entries.{surfaces-at}
 use Rattle.output.specs.Outputs.{Wrote, chunksBytes}
 use Rattle.write_surfaces.specs.Surfaces.{levelsBytes, valueBytes, surfaceChunk, SurfacesRoom}
-use Rattle.output.proofs.PutSoFar.{short-vx}
+use Rattle.format.proofs.CanonicalLengths.{short-vx}
 use Rattle.output.proofs.PutSoFar as bytes-put
-use Rattle.output.proofs.PutSoFar.{PutSoFar, First}
+use Rattle.output.proofs.PutSoFar.{PutSoFar, NextPart}
 use Rattle.output.proofs.Chunks.{Chunk, BodyFirst, chunk-is}
 
 -- ---- levels
@@ -36,7 +36,7 @@ module _ (tag : ℕ) (ls : List ℕ) where
   levelsBody = joined (map (bytes 4) ls) ++ vxBytes 0
 
   levels-long : 4 * length ls + 2 ≡ length levelsBody
-  levels-long = omega (arith, length-append (joined (map (bytes 4) ls)) (vxBytes 0), length-entries 4 (bytes 4) (length-bytes 4) ls, short-vx 0 (omega arith))
+  levels-long = omega (arith, length-append (joined (map (bytes 4) ls)) (vxBytes 0), length-each 4 (bytes 4) (length-bytes 4) ls, short-vx 0 (omega arith))
 
   pub levels-chunk : {t : List ℕ} {at : ℕ} → at + length (levelsBytes tag ls) ≤ length t → Chunk (levelsBytes tag ls) 2 tag (4 * length ls + 2) levelsBody t at
   levels-chunk fits = record { is = rw levels-long; fits = fits }
@@ -44,17 +44,17 @@ module _ (tag : ℕ) (ls : List ℕ) where
 -- the values of a record by its words
 abbrev pub values : List ℕ → List (List ℕ)
 values ws =
-    levelsBytes 0x434F4C52 (take 3 (drop 1 ws))
-    ∷ levelsBytes 0x44494646 (take 1 (drop 4 ws))
-    ∷ levelsBytes 0x4C554D49 (take 1 (drop 5 ws))
-    ∷ levelsBytes 0x53504543 (take 1 (drop 6 ws))
-    ∷ levelsBytes 0x5245464C (take 1 (drop 7 ws))
-    ∷ levelsBytes 0x5452414E (take 1 (drop 8 ws))
+    levelsBytes (tagNumber "COLR") (take 3 (drop 1 ws))
+    ∷ levelsBytes (tagNumber "DIFF") (take 1 (drop 4 ws))
+    ∷ levelsBytes (tagNumber "LUMI") (take 1 (drop 5 ws))
+    ∷ levelsBytes (tagNumber "SPEC") (take 1 (drop 6 ws))
+    ∷ levelsBytes (tagNumber "REFL") (take 1 (drop 7 ws))
+    ∷ levelsBytes (tagNumber "TRAN") (take 1 (drop 8 ws))
     ∷ chunkBytes 2 "SIDE" (bytes 2 (getD ws 9 0))
     ∷ []
 
 values-of : (s : Surface) → valueBytes s ≡ joined (values (surfaceWords s))
-unfolding valueBytes levelBytes chunkBytes bytes joined
+unfolding valueBytes levelBytes chunkBytes bytes joined number
 values-of s = refl
 
 pub values-are : (ws : List ℕ) → length ws ≡ recordSize → valueBytes (surfaceFrom ws) ≡ joined (values ws)
@@ -67,11 +67,11 @@ module _ (name : Name) (s : Surface) where
   not-defined other = rw (ne-eqb (s .defined) 1 other)
 
   pub surface-chunk : {t : List ℕ} {at : ℕ} → s .defined ≡ 1 → at + length (surfaceChunk name s) ≤ length t
-      → BodyFirst (surfaceChunk name s) 0x53555246 (surfaceBytes name s) t at
-  unfolding bytes
+      → BodyFirst (surfaceChunk name s) (tagNumber "SURF") (surfaceBytes name s) t at
+  unfolding bytes number
   surface-chunk defined fits =
       let there : surfaceChunk name s ≡ chunkBytes 4 "SURF" (surfaceBytes name s) = rw (eq-eqb (s .defined) 1 defined) in
-      record { is = there ∙ chunk-is 4 0x53555246 "SURF" (surfaceBytes name s) refl; fits = fits }
+      record { is = there ∙ chunk-is 4 (tagNumber "SURF") "SURF" (surfaceBytes name s) refl; fits = fits }
 
   pub surface-parts : surfaceBytes name s ≡ joined (stringBytes name ∷ stringBytes [] ∷ valueBytes s ∷ [])
   unfolding surfaceBytes valueBytes joined
@@ -97,7 +97,7 @@ one-surface name s = go (eqb (s .defined) 1)
     go false = refl
 
 abbrev surfacesBytes : (names nameBytes records : List ℕ) → List ℕ
-surfacesBytes ns bs ws = chunksBytes (surfaceChunks (pieces ns bs) (surfacesOf ws))
+surfacesBytes ns bs ws = chunksBytes (surfaceChunks (pieces ns bs) (meshSurfaces ws))
 
 pub record SurfaceWalk (ns bs ws t : List ℕ) (at : ℕ) (t′ : List ℕ) (next i from entry : ℕ) : Type 0 where
   pub agree : from + sum (drop i ns) ≡ length bs
@@ -127,11 +127,11 @@ module _ {ns bs ws t t′ : List ℕ} {at next i from entry : ℕ} (w : SurfaceW
       pub name-there : from + n ≤ length bs
       name-there = omega (arith, w .agree, sum-index i ns inside)
 
-      one : First (surfacesBytes (drop i ns) (drop from bs) (drop entry ws)) (surfaceChunk name (surfaceFrom words)) (surfacesBytes (drop (i + 1) ns) (drop (from + n) bs) (drop (entry + recordSize) ws))
+      one : NextPart (surfacesBytes (drop i ns) (drop from bs) (drop entry ws)) (surfaceChunk name (surfaceFrom words)) (surfacesBytes (drop (i + 1) ns) (drop (from + n) bs) (drop (entry + recordSize) ws))
       unfolding surfaceChunks
       one = record {
         is = rw (part from n bs, count, part entry recordSize ws, pieces-at i from ns bs inside, surfaces-at entry ws (omega (arith, record-there)))
-            (joined-map-append encoded (chosen (take (getD ns i 0) (drop from bs)) (surfaceFrom (take recordSize (drop entry ws)))) (surfaceChunks (pieces (drop (i + 1) ns) (drop (from + getD ns i 0) bs)) (surfacesOf (drop (entry + recordSize) ws)))
+            (joined-map-append encoded (chosen (take (getD ns i 0) (drop from bs)) (surfaceFrom (take recordSize (drop entry ws)))) (surfaceChunks (pieces (drop (i + 1) ns) (drop (from + getD ns i 0) bs)) (meshSurfaces (drop (entry + recordSize) ws)))
             ∙ rw (one-surface (take (getD ns i 0) (drop from bs)) (surfaceFrom (take recordSize (drop entry ws)))));
       }
 

@@ -8,7 +8,7 @@ use Rattle.format.specs.Bytes.{if_then_else_, sum, joined}
 use Rattle.format.specs.Mesh.{Name, Surface, recordSize}
 use Rattle.format.specs.Canonical.{bytes, vxBytes, chunkBytes, levelBytes, surfaceBytes, surfaceChunks}
 use Rattle.format.specs.Written.{pieces}
-use Rattle.mesh.specs.Lent.{surfacesOf}
+use Rattle.mesh.specs.Lent.{meshSurfaces}
 use Rattle.output.specs.Outputs.{chunksBytes, taggedBytes}
 
 -- `levelBytes` by the number of the tag
@@ -36,4 +36,4 @@ surfaceChunk n s = if eqb (s .defined) 1 then chunkBytes 4 "SURF" (surfaceBytes 
 pub record SurfacesRoom (out : List ℕ) (at : ℕ) (names nameBytes records : List ℕ) : Type 0 where
   pub agree : sum names ≡ length nameBytes
   pub a-record-each : length records ≡ recordSize * length names
-  pub room : at + length (chunksBytes (surfaceChunks (pieces names nameBytes) (surfacesOf records))) ≤ length out
+  pub room : at + length (chunksBytes (surfaceChunks (pieces names nameBytes) (meshSurfaces records))) ≤ length out

@@ -5,7 +5,7 @@ ghost use lib.ListN.{length};
 ghost use Rattle.format.specs.Mesh.{recordSize, surfaceFrom};
 ghost use Rattle.format.specs.Canonical.{bytes, chunkBytes, surfaceChunks};
 ghost use Rattle.format.specs.Written.{pieces};
-ghost use Rattle.mesh.specs.Lent.{surfacesOf};
+ghost use Rattle.mesh.specs.Lent.{meshSurfaces};
 ghost use Rattle.output.specs.Outputs.{Wrote, chunksBytes};
 ghost use Rattle.write_surfaces.specs.Surfaces.{levelsBytes, valueBytes, surfaceChunk, SurfacesRoom};
 use format::RECORD_WORDS;
@@ -79,7 +79,7 @@ pub fn put_surfaces(
     records: &[u32],
 ) -> usize
     requires { ⌜ SurfacesRoom (now out) at (now names) (now «name_bytes») (now records) ⌝ }
-    ensures { λ r. ⌜ Wrote (now (out .entry)) at (chunksBytes (surfaceChunks (pieces (now (names .entry)) (now («name_bytes» .entry))) (surfacesOf (now (records .entry))))) (now (out .exit)) r ⌝ }
+    ensures { λ r. ⌜ Wrote (now (out .entry)) at (chunksBytes (surfaceChunks (pieces (now (names .entry)) (now («name_bytes» .entry))) (meshSurfaces (now (records .entry))))) (now (out .exit)) r ⌝ }
 {
     let mut next = at;
     let mut i = 0;

@@ -7,14 +7,14 @@ use native.Mathlib.Omega.{arith}
 use lib.Dec.{ltb}
 use lib.ListN.{length, length-map, length-append}
 use borrow.Author.Tests.{ltb-true, lt-ltb}
-use Rattle.format.specs.Bytes.{all, joined}
+use Rattle.format.specs.Bytes.{number, tagNumber, all, joined}
 use Rattle.format.specs.Mesh.{Point, pointSize, pointFrom, Tables}
 use Rattle.format.specs.Canonical.{bytes, stringBytes, pointBytes, runs, unlessEmpty, runChunks, surfaceChunks, canonicalChunks, formBytes, encoded, canonical}
 use Rattle.format.specs.Written.{pieces, entries, meshFrom, isMesh}
 use Rattle.format.proofs.Puts.{joined-map-append}
 use Rattle.format.proofs.Facts.{all-first, all-rest}
 use Rattle.format.proofs.CanonicalLengths.{length-bytes, length-form}
-use Rattle.mesh.specs.Lent.{polygonsOf, surfacesOf}
+use Rattle.mesh.specs.Lent.{meshPolygons, meshSurfaces}
 use Rattle.mesh.proofs.Entries.{first, length-entries}
 use Rattle.mesh.proofs.MeshFacts.{MeshFacts, mesh-facts}
 use Rattle.output.specs.Outputs.{chunksBytes, headBytes}
@@ -64,14 +64,14 @@ module _ (t : Tables) where
   coordinates = chunksBytes (unlessEmpty "PNTS" "" (bytes 4) (t .points))
 
   abbrev allRuns : List ℕ
-  allRuns = chunksBytes (joined (map runChunks (runs (polygonsOf (t .polygons) (t .vertices)))))
+  allRuns = chunksBytes (joined (map runChunks (runs (meshPolygons (t .polygons) (t .vertices)))))
 
   abbrev surfaces : List ℕ
-  surfaces = chunksBytes (surfaceChunks (pieces (t .names) (t .nameBytes)) (surfacesOf (t .records)))
+  surfaces = chunksBytes (surfaceChunks (pieces (t .names) (t .nameBytes)) (meshSurfaces (t .records)))
 
   -- a file of n bytes
   abbrev pub fileParts : (n : ℕ) → List (List ℕ)
-  fileParts n = headBytes 4 0x464F524D (n - 8) ∷ bytes 4 0x4C574F32 ∷ tags ∷ coordinates ∷ allRuns ∷ surfaces ∷ []
+  fileParts n = headBytes 4 (tagNumber "FORM") (n - 8) ∷ bytes 4 (tagNumber "LWO2") ∷ tags ∷ coordinates ∷ allRuns ∷ surfaces ∷ []
 
   abbrev all-chunks : List ℕ
   all-chunks = chunksBytes (canonicalChunks (meshFrom t))
@@ -92,7 +92,7 @@ module _ (t : Tables) where
     same-points = points-chunk (t .points) (facts .whole-points)
 
     chunks-are : all-chunks ≡ tags ++ (coordinates ++ (allRuns ++ surfaces))
-    unfolding canonicalChunks meshFrom polygonsOf surfacesOf
+    unfolding canonicalChunks meshFrom meshPolygons meshSurfaces
     chunks-are =
         let m = meshFrom t in
         let a = unlessEmpty "TAGS" "" stringBytes (m .names) in
@@ -102,7 +102,7 @@ module _ (t : Tables) where
         joined-map-append encoded a (b ++ (c ++ d)) ∙ rw (joined-map-append encoded b (c ++ d), joined-map-append encoded c d, same-points)
 
     pub file-is : {n : ℕ} → n ≡ length (canonical (meshFrom t)) → canonical (meshFrom t) ≡ joined (fileParts n)
-    unfolding canonical formBytes bytes joined
+    unfolding canonical formBytes bytes joined number
     file-is {n} long =
         let rest : 4 + length all-chunks ≡ n - 8 = omega (arith, long, length-form "LWO2" all-chunks refl) in
         rw (rest, chunks-are, append-nil surfaces)

@@ -16,7 +16,7 @@ use Rattle.format.specs.Written.{meshFrom, isMesh, Written, says, written, outp
 use Rattle.writer.specs.declared.Answer.{Answer}
 use Rattle.writer.specs.Writes.{answerAs}
 use Rattle.output.specs.Outputs.{Wrote}
-use Rattle.writer.specs.Contracts.{FileRoom}
+use Rattle.writer.specs.Contracts.{OutputRoom}
 
 module _ (t : Tables) (out : List ℕ) {a : Answer} (is : answerAs a ≡ written t (length out)) where
   abbrev file : List ℕ
@@ -30,7 +30,7 @@ module _ (t : Tables) (out : List ℕ) {a : Answer} (is : answerAs a ≡ written
   refused other = record { answers = is; leaves = rw (ne-eqb (written t (length out) .number) 0 (λ zero. other (same-number ∙ zero))) }
 
   module _ (zero : a .number ≡ 0) where
-    pub accepted : FileRoom t out (a .length)
+    pub accepted : OutputRoom t out (a .length)
     unfolding written
     accepted = let r = go (isMesh t) (ltb fileLimit (length file)) (ltb (length out) (length file)) is in record { mesh = r .0; long = r .2; room = omega (arith, ltb-false (length out) (length file) (r .1), r .2) }
       where

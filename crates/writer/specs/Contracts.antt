@@ -9,7 +9,7 @@ use Rattle.format.specs.Canonical.{canonical}
 use Rattle.format.specs.Written.{meshFrom, isMesh}
 
 -- tables that are a mesh, and room for its file of n bytes
-pub record FileRoom (t : Tables) (out : List ℕ) (n : ℕ) : Type 0 where
+pub record OutputRoom (t : Tables) (out : List ℕ) (n : ℕ) : Type 0 where
   pub mesh : isMesh t ≡ true
   pub long : n ≡ length (canonical (meshFrom t))
   pub room : n ≤ length out

@@ -6,7 +6,7 @@ ghost use Rattle.format.specs.Canonical.{canonical};
 ghost use Rattle.format.specs.Written.{meshFrom, written, Writes};
 ghost use Rattle.writer.specs.Writes.{answerAs};
 ghost use Rattle.output.specs.Outputs.{Wrote};
-ghost use Rattle.writer.specs.Contracts.{FileRoom};
+ghost use Rattle.writer.specs.Contracts.{OutputRoom};
 use crate::chunks::put_names_chunk;
 use crate::chunks::put_points_chunk;
 use format::tags::FORM;
@@ -73,7 +73,7 @@ fn put_file(
     records: &[u32],
     n: usize,
 ) -> usize
-    requires { ⌜ FileRoom (lent (now points) (now polygons) (now vertices) (now names) (now «name_bytes») (now records)) (now out) n ⌝ }
+    requires { ⌜ OutputRoom (lent (now points) (now polygons) (now vertices) (now names) (now «name_bytes») (now records)) (now out) n ⌝ }
     ensures { λ r. ⌜ Wrote (now (out .entry)) 0 (canonical (meshFrom (lent (now (points .entry)) (now (polygons .entry)) (now (vertices .entry)) (now (names .entry)) (now («name_bytes» .entry)) (now (records .entry))))) (now (out .exit)) r ⌝ }
 {
     let kind = put_head(out, 0, FORM, n - 8);

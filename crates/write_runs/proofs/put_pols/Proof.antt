@@ -3,13 +3,13 @@ use Prim.Native.Nat.{ℕ, _+_}
 use mathlib.Core.List.{List, [], _∷_, _++_, map}
 use borrow.Author.Needs.{needs}
 use denote.Ref.{now}
-use Rattle.format.specs.Bytes.{spelt, joined}
+use Rattle.format.specs.Bytes.{number, tagNumber, spelt, joined}
 use Rattle.format.specs.Mesh.{word, polygonSize}
 use Rattle.format.specs.Canonical.{chunkBytes, polygonBytes, typeOf}
-use Rattle.mesh.specs.Lent.{entryAt, polygonsOf}
+use Rattle.mesh.specs.Lent.{entryAt, meshPolygons}
 use Rattle.output.proofs.Parts.{PartsLeft, begin, in-two, room, turn, end}
 use Rattle.output.proofs.Chunks.{BodyFirst, first-room, close-room, closed}
-use Rattle.lengths.proofs.RunLengths.{four}
+use Rattle.format.proofs.CanonicalLengths.{length-type}
 use Rattle.write_runs.proofs.Runs.{pols}
 use Rattle.write_runs.proofs.put_pols.Statement.{statement}
 use Rattle.write_runs.proofs.put_pols.Tie as tie
@@ -18,9 +18,9 @@ abbrev type : tie.Start → List ℕ
 type s = spelt (typeOf (word 0 (entryAt polygonSize 0 (now (s .args .run)))))
 
 abbrev polygons : tie.Start → List ℕ
-polygons s = joined (map polygonBytes (polygonsOf (now (s .args .run)) (now (s .args .vertices))))
+polygons s = joined (map polygonBytes (meshPolygons (now (s .args .run)) (now (s .args .vertices))))
 
-whole : (s : tie.Start) → BodyFirst (chunkBytes 4 "POLS" (type s ++ polygons s)) 0x504F4C53 (type s ++ polygons s) (now (s .args .out)) (s .args .at)
+whole : (s : tie.Start) → BodyFirst (chunkBytes 4 "POLS" (type s ++ polygons s)) (tagNumber "POLS") (type s ++ polygons s) (now (s .args .out)) (s .args .at)
 whole s = pols (now (s .args .run)) (now (s .args .vertices)) (s .pre .1)
 
 -- the parts of the body that are left
@@ -38,7 +38,7 @@ typed : (u : tie.After-put-u4) → Body (start u) (polygons (start u) ∷ []) (u
 typed u = turn (opened (start u)) (rw (u .before .type-of .ensures, u .before .before .kind .ensures) at (u .put-u4 .ensures))
 
 put-u4-requires : tie.Need-put-u4-requires
-put-u4-requires c κs = rw four at (room (opened (c .before .before .before .before .before .before)))
+put-u4-requires c κs = rw length-type at (room (opened (c .before .before .before .before .before .before)))
 
 put-polygons-requires : tie.Need-put-polygons-requires
 put-polygons-requires c κs =
@@ -53,6 +53,7 @@ close-chunk-requires c κs =
     close-room (whole (start u)) (end (turn (typed u) (b .put-polygons .ensures)))
 
 returns : tie.Need-returns
+unfolding number
 returns c =
     let p = c .before .before in
     let b = p .before .before .before .before in

@@ -4,13 +4,13 @@ use mathlib.Core.Path.{sym, _∙_}
 use mathlib.Core.List.{List, [], _∷_, _++_}
 use borrow.Author.Needs.{needs}
 use denote.Ref.{now}
-use Rattle.format.specs.Bytes.{spelt}
+use Rattle.format.specs.Bytes.{number, tagNumber, spelt}
 use Rattle.format.specs.Mesh.{polygonSize}
 use Rattle.format.specs.Canonical.{bytes}
 use Rattle.mesh.specs.Lent.{column}
-use Rattle.lengths.specs.Sizes.{pairsFrom}
+use Rattle.mesh.specs.Polygons.{pairsFrom}
 use Rattle.write_runs.specs.Runs.{unlessNoBytes}
-use Rattle.output.proofs.PutSoFar.{nothing}
+use Rattle.output.proofs.PutSoFar.{wrote-none}
 use Rattle.output.proofs.Parts.{PartsLeft, begin, in-two, room, turn, end}
 use Rattle.output.proofs.Chunks.{BodyFirst, first-room, close-room, closed}
 use Rattle.write_runs.proofs.Runs.{no-ptag, ptag, no-pairs, a-pair-there}
@@ -31,7 +31,7 @@ abbrev at-type : tie.After-put-u4 → tie.Else1
 at-type u = u .before .before
 
 whole : (x : tie.Else1)
-    → BodyFirst (unlessNoBytes "PTAG" "SURF" (pairs (start x))) 0x50544147 (spelt "SURF" ++ pairs (start x)) (now (start x .args .out)) (start x .args .at)
+    → BodyFirst (unlessNoBytes "PTAG" "SURF" (pairs (start x))) (tagNumber "PTAG") (spelt "SURF" ++ pairs (start x)) (now (start x .args .out)) (start x .args .at)
 whole x = ptag (pairs (start x)) (a-pair-there 0 (surfaces (start x)) (sym (x .before .no-surfaces .ensures) ∙ x .if1 .left)) (start x .pre .1)
 
 -- the type and the pairs are put into the body
@@ -42,7 +42,7 @@ opened x = begin (in-two (spelt "SURF") (pairs (start x))) (first-room (whole x)
 returns : tie.Need-returns
 returns c =
     let s = c .before .before .before .before in
-    rw (no-ptag (pairs s) (no-pairs 0 (surfaces s) (sym (c .before .no-surfaces .ensures) ∙ c .if1 .taken))) nothing
+    rw (no-ptag (pairs s) (no-pairs 0 (surfaces s) (sym (c .before .no-surfaces .ensures) ∙ c .if1 .taken))) wrote-none
 
 put-u4-requires : tie.Need-put-u4-requires
 put-u4-requires c κs = room (opened (c .before))
@@ -61,7 +61,7 @@ close-chunk-requires c κs =
     close-room (whole (at-type u)) (end (turn (turn (opened (at-type u)) (u .put-u4 .ensures)) (b .put-pairs .ensures)))
 
 returns-2 : tie.Need-returns-2
-unfolding bytes
+unfolding bytes number
 returns-2 c =
     let p = c .before .before in
     let b = p .before .before .before .before in

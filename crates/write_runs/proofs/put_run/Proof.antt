@@ -4,8 +4,8 @@ use borrow.Author.Needs.{needs}
 use denote.Ref.{now}
 use Rattle.format.specs.Canonical.{chunkBytes, runChunks}
 use Rattle.format.specs.Mesh.{polygonSize}
-use Rattle.mesh.specs.Lent.{column, polygonsOf}
-use Rattle.lengths.specs.Sizes.{pairsFrom}
+use Rattle.mesh.specs.Lent.{column, meshPolygons}
+use Rattle.mesh.specs.Polygons.{pairsFrom}
 use Rattle.output.specs.Outputs.{chunksBytes}
 use Rattle.write_runs.specs.Runs.{unlessNoBytes}
 use Rattle.output.proofs.Parts.{PartsLeft, begin, room, turn, end}
@@ -16,7 +16,7 @@ use Rattle.write_runs.proofs.put_run.Tie as tie
 started : (s : tie.Start)
     → let run = now (s .args .run) in
     let vertices = now (s .args .vertices) in
-    PartsLeft (chunksBytes (runChunks (polygonsOf run vertices))) (chunkBytes 4 "POLS" (polsBody run vertices) ∷ unlessNoBytes "PTAG" "SURF" (pairsFrom 0 (column polygonSize 2 run)) ∷ []) (now (s .args .out)) (s .args .at) (now (s .args .out)) (s .args .at)
+    PartsLeft (chunksBytes (runChunks (meshPolygons run vertices))) (chunkBytes 4 "POLS" (polsBody run vertices) ∷ unlessNoBytes "PTAG" "SURF" (pairsFrom 0 (column polygonSize 2 run)) ∷ []) (now (s .args .out)) (s .args .at) (now (s .args .out)) (s .args .at)
 started s = begin (run-chunks-are (now (s .args .run)) (now (s .args .vertices)) (s .pre .0 .some)) (s .pre .1)
 
 put-pols-requires : tie.Need-put-pols-requires

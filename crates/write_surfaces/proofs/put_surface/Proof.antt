@@ -3,10 +3,11 @@ use Prim.Native.Nat.{ℕ, _+_}
 use mathlib.Core.List.{List, [], _∷_}
 use borrow.Author.Needs.{needs}
 use denote.Ref.{now}
+use Rattle.format.specs.Bytes.{number, tagNumber}
 use Rattle.format.specs.Mesh.{Surface, surfaceFrom}
 use Rattle.format.specs.Canonical.{stringBytes, surfaceBytes}
 use Rattle.write_surfaces.specs.Surfaces.{surfaceChunk, valueBytes}
-use Rattle.output.proofs.PutSoFar.{nothing}
+use Rattle.output.proofs.PutSoFar.{wrote-none}
 use Rattle.output.proofs.Parts.{PartsLeft, begin, room, turn, end}
 use Rattle.output.proofs.Chunks.{BodyFirst, first-room, close-room, closed}
 use Rattle.write_surfaces.proofs.Surfaces.{not-defined, surface-chunk, surface-parts, no-source}
@@ -29,7 +30,7 @@ at-string u = u .before .before
 abbrev at-source : tie.After-put-u2 → tie.Else1
 at-source v = at-string (v .before .before .before .before)
 
-whole : (x : tie.Else1) → let s = start x in BodyFirst (surfaceChunk (name s) (surface s)) 0x53555246 (surfaceBytes (name s) (surface s)) (now (s .args .out)) (s .args .at)
+whole : (x : tie.Else1) → let s = start x in BodyFirst (surfaceChunk (name s) (surface s)) (tagNumber "SURF") (surfaceBytes (name s) (surface s)) (now (s .args .out)) (s .args .at)
 whole x = let s = start x in surface-chunk (name s) (surface s) (x .if1 .left) (s .pre .1)
 
 -- the parts of the body that are left
@@ -46,7 +47,7 @@ sourced : (v : tie.After-put-u2) → Body (at-source v) (valueBytes (surface (st
 sourced v = turn (named (v .before .before .before .before)) (rw no-source at (v .put-u2 .ensures))
 
 returns : tie.Need-returns
-returns c = let s = c .before .before .before .before .before in rw (not-defined (name s) (surface s) (c .if1 .taken)) nothing
+returns c = let s = c .before .before .before .before .before in rw (not-defined (name s) (surface s) (c .if1 .taken)) wrote-none
 
 put-string-requires : tie.Need-put-string-requires
 put-string-requires c κs = room (opened (c .before))
@@ -65,6 +66,7 @@ close-chunk-requires c κs =
     close-room (whole (at-source v)) (end (turn (sourced v) (w .put-values .ensures)))
 
 returns-2 : tie.Need-returns-2
+unfolding number
 returns-2 c =
     let p = c .before .before in
     let w = p .before .before .before .before in

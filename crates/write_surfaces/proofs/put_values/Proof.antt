@@ -5,6 +5,7 @@ use lib.ListN.{drop}
 use native.Mathlib.Omega.{arith}
 use borrow.Author.Needs.{needs}
 use denote.Ref.{now}
+use Rattle.format.specs.Bytes.{number}
 use Rattle.format.specs.Mesh.{surfaceFrom}
 use Rattle.write_surfaces.specs.Surfaces.{valueBytes}
 use Rattle.output.proofs.Parts.{PartsLeft, begin, room, turn, end}
@@ -39,39 +40,51 @@ none : (s : tie.Start) → After s 0 (now (s .args .out)) (s .args .at)
 none s = begin (values-are (now (s .args .words)) (s .pre .0)) (s .pre .1)
 
 colour : (u : tie.After-put-levels) → After (at-colour u) 1 (u .put-levels .last .0) (u .put-levels .result)
+unfolding number
 colour u = turn (none (u .before .before .before .before .before)) (u .put-levels .ensures)
 
 diffuse : (u : tie.After-put-levels2) → After (at-diffuse u) 2 (u .put-levels2 .last .0) (u .put-levels2 .result)
+unfolding number
 diffuse u = turn (colour (u .before .before .before .before .before)) (u .put-levels2 .ensures)
 
 luminosity : (u : tie.After-put-levels3) → After (at-luminosity u) 3 (u .put-levels3 .last .0) (u .put-levels3 .result)
+unfolding number
 luminosity u = turn (diffuse (u .before .before .before .before .before)) (u .put-levels3 .ensures)
 
 specular : (u : tie.After-put-levels4) → After (at-specular u) 4 (u .put-levels4 .last .0) (u .put-levels4 .result)
+unfolding number
 specular u = turn (luminosity (u .before .before .before .before .before)) (u .put-levels4 .ensures)
 
 reflection : (u : tie.After-put-levels5) → After (at-reflection u) 5 (u .put-levels5 .last .0) (u .put-levels5 .result)
+unfolding number
 reflection u = turn (specular (u .before .before .before .before .before)) (u .put-levels5 .ensures)
 
 transparency : (u : tie.After-put-levels6) → After (at-transparency u) 6 (u .put-levels6 .last .0) (u .put-levels6 .result)
+unfolding number
 transparency u = turn (reflection (u .before .before .before .before .before)) (u .put-levels6 .ensures)
 
 put-levels-requires : tie.Need-put-levels-requires
+unfolding number
 put-levels-requires c κs = room (none (c .before .before .before .before))
 
 put-levels-requires-2 : tie.Need-put-levels-requires-2
+unfolding number
 put-levels-requires-2 c κs = room (colour (c .before .before .before .before))
 
 put-levels-requires-3 : tie.Need-put-levels-requires-3
+unfolding number
 put-levels-requires-3 c κs = room (diffuse (c .before .before .before .before))
 
 put-levels-requires-4 : tie.Need-put-levels-requires-4
+unfolding number
 put-levels-requires-4 c κs = room (luminosity (c .before .before .before .before))
 
 put-levels-requires-5 : tie.Need-put-levels-requires-5
+unfolding number
 put-levels-requires-5 c κs = room (specular (c .before .before .before .before))
 
 put-levels-requires-6 : tie.Need-put-levels-requires-6
+unfolding number
 put-levels-requires-6 c κs = room (reflection (c .before .before .before .before))
 
 shared-slice-read-put-sides : tie.Need-shared-slice-read-put-sides

@@ -4,6 +4,7 @@ use mathlib.Core.List.{List}
 use native.Mathlib.Omega.{arith}
 use lib.ListN.{drop}
 use denote.Ref.{now}
+use Rattle.format.specs.Bytes.{number}
 use Rattle.format.specs.Mesh.{Tables, lent}
 use Rattle.format.specs.Canonical.{canonical}
 use Rattle.format.specs.Written.{meshFrom}
@@ -44,9 +45,11 @@ started : (s : tie.Start) → After s 0 (now (s .args .out)) 0
 started s = begin (file-is (tables s) (s .pre .mesh) (s .pre .long)) (omega (arith, s .pre .long, s .pre .room))
 
 headed : (u : tie.After-put-head) → After (at-head u) 1 (u .put-head .last .0) (u .put-head .result)
+unfolding number
 headed u = turn (started (at-head u)) (u .put-head .ensures)
 
 typed : (u : tie.After-put-u4) → After (at-type u) 2 (u .put-u4 .last .0) (u .put-u4 .result)
+unfolding number
 typed u = turn (headed (u .before .before .before .before)) (u .put-u4 .ensures)
 
 tagged : (u : tie.After-put-names-chunk) → After (at-tags u) 3 (u .put-names-chunk .last .0) (u .put-names-chunk .result)
@@ -62,6 +65,7 @@ sub-put-head : tie.Need-sub-put-head
 sub-put-head c = let s = c .before .before .before .before .before .before .before .before in omega (arith, head-long (tables s) (s .pre .long))
 
 put-head-requires : tie.Need-put-head-requires
+unfolding number
 put-head-requires c κs = room (started (c .before .before .before .before .before .before .before .before))
 
 put-u4-requires : tie.Need-put-u4-requires

@@ -8,7 +8,7 @@ use borrow.Author.Needs.{needs}
 use denote.Ref.{now}
 use Rattle.format.specs.Bytes.{all}
 use Rattle.format.specs.Written.{goodPolygon}
-use Rattle.mesh.specs.Lent.{polygonsOf}
+use Rattle.mesh.specs.Lent.{meshPolygons}
 use Rattle.mesh.proofs.AllPass as all-pass
 use Rattle.mesh.proofs.AllPass.{AllPass, passed, failed}
 use Rattle.mesh.proofs.PolygonWalk.{PolygonWalk, begin, counted, ordered, here, turn, end}
@@ -17,7 +17,7 @@ use Rattle.good_mesh.proofs.polygons.good_polygons.Statement.{statement
 use Rattle.good_mesh.proofs.polygons.good_polygons.Tie as tie
 
 abbrev Inv-loop : tie.InvT-loop
-Inv-loop polygons vertices points names at₀ first₀ at first = PolygonWalk polygons vertices (AllPass (goodWords names) (polygonsOf polygons vertices)) at first
+Inv-loop polygons vertices points names at₀ first₀ at first = PolygonWalk polygons vertices (AllPass (goodWords names) (meshPolygons polygons vertices)) at first
 
 abbrev μ-loop : tie.MeasureT-loop
 μ-loop polygons vertices points names at₀ first₀ at first = length polygons - at
@@ -36,7 +36,7 @@ start x = x .before .before .before .before
 -- the entries decide
 decided : (x : tie.Else1 Inv-loop μ-loop)
     → let s = start x in
-    let ps = polygonsOf (now (s .args .polygons)) (now (s .args .vertices)) in
+    let ps = meshPolygons (now (s .args .polygons)) (now (s .args .vertices)) in
     all (goodWords (s .args .names)) ps ≡ all (goodPolygon (s .args .points) (s .args .names)) ps
 decided x =
     let s = start x in

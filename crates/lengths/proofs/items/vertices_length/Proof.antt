@@ -5,7 +5,7 @@ use native.Mathlib.Omega.{arith}
 use lib.ListN.{length, drop}
 use borrow.Author.Needs.{needs}
 use Rattle.format.specs.Canonical.{vxBytes}
-use Rattle.output.specs.Outputs.{total}
+use Rattle.format.specs.Contracts.{total}
 use Rattle.lengths.proofs.SizeSum.{SizeSum, begin, turn, end, total-more, total-none}
 use Rattle.lengths.proofs.items.vertices_length.Statement.{statement}
 use Rattle.lengths.proofs.items.vertices_length.Tie as tie

@@ -1,7 +1,7 @@
 -- Two bytes below 65,280, else four.
 use mathlib.Core.Path.{sym}
 use native.Mathlib.Omega.{arith}
-use Rattle.output.proofs.PutSoFar.{short-vx, long-vx}
+use Rattle.format.proofs.CanonicalLengths.{short-vx, long-vx}
 use Rattle.lengths.proofs.items.vx_length.Statement.{statement}
 use Rattle.lengths.proofs.items.vx_length.Tie as tie
 

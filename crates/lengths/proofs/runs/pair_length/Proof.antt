@@ -7,7 +7,7 @@ use borrow.Author.Tests.{eq-eqb}
 use borrow.Author.Needs.{needs}
 use Rattle.format.specs.Canonical.{vxBytes}
 use Rattle.format.proofs.CanonicalLengths.{length-bytes}
-use Rattle.lengths.proofs.Pairs.{pair-parts}
+use Rattle.mesh.proofs.Pairs.{pair-parts}
 use Rattle.lengths.proofs.runs.pair_length.Statement.{statement}
 use Rattle.lengths.proofs.runs.pair_length.Tie as tie
 

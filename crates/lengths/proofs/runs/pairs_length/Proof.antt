@@ -8,10 +8,10 @@ use borrow.Author.Needs.{needs}
 use Rattle.format.specs.Mesh.{polygonSize}
 use Rattle.mesh.specs.Lent.{column}
 use Rattle.mesh.proofs.ColumnWalk.{ColumnWalk, begin, here, turn, end}
-use Rattle.lengths.specs.Sizes.{pairsFrom}
+use Rattle.mesh.specs.Polygons.{pairsFrom}
 use Rattle.lengths.proofs.SizeSum as sizes
 use Rattle.lengths.proofs.SizeSum.{SizeSum}
-use Rattle.lengths.proofs.Pairs.{pairs-more}
+use Rattle.mesh.proofs.Pairs.{pairs-more}
 use Rattle.lengths.proofs.runs.pairs_length.Statement.{statement}
 use Rattle.lengths.proofs.runs.pairs_length.Tie as tie
 

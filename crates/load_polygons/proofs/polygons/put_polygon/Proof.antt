@@ -22,7 +22,7 @@ returns-2 c =
     let p = v .before .before .before .before in
     let x = p .before .before .before in
     let u = x .before .before in
-    polygon-put _ (u .before .before .before .before .pre) (rw (x .n .given .1) at (u .u2 .ensures)) (p .put-words .ensures) (v .put-vx-vertices .ensures)
+    polygon-put _ (u .before .before .before .before .pre) (rw (x .n .given .1) at (u .u2 .ensures)) (p .put-polygon-words .ensures) (v .put-vx-vertices .ensures)
 
 pub put-polygon-spec : {M : Type 1} → statement M
 put-polygon-spec =

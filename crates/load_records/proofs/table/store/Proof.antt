@@ -7,12 +7,13 @@ use native.Mathlib.Nat.{add-zero}
 use native.Mathlib.Omega.{arith}
 use lib.ListN.{length, set, length-set}
 use denote.Ref.{now}
+use Rattle.format.specs.Mesh.{recordSize}
 use Rattle.format.specs.Contracts.{Put}
 use Rattle.format.proofs.Puts.{put-none, put-length, put-snoc, put-append}
 use Rattle.load_records.proofs.table.store.Statement.{statement}
 use Rattle.load_records.proofs.table.store.Tie as tie
 
-module _ (t : List ℕ) (at w : ℕ) (room : at + 10 ≤ length t) {t₁ : List ℕ} {a b c d : ℕ} (p : Put (set t at w) (at + 1) (a ∷ b ∷ c ∷ d ∷ []) t₁) where
+module _ (t : List ℕ) (at w : ℕ) (room : at + recordSize ≤ length t) {t₁ : List ℕ} {a b c d : ℕ} (p : Put (set t at w) (at + 1) (a ∷ b ∷ c ∷ d ∷ []) t₁) where
   five : Put t at (w ∷ a ∷ b ∷ c ∷ d ∷ []) t₁
   five =
       let one : Put t at (w ∷ []) (set t at w) = rw (add-zero at) at (put-snoc (put-none t at) w (omega arith)) in
@@ -42,7 +43,7 @@ put-levels-requires-2 c κs =
     let u = c .before .before .before in
     let start = u .before .before .before in
     let h = start .pre .1 in
-    let long = five-length (now (start .args .table)) (start .args .i * 10) (start .args .r .defined) (start .pre .0) (u .put-levels .ensures) in
+    let long = five-length (now (start .args .table)) (start .args .i * recordSize) (start .args .r .defined) (start .pre .0) (u .put-levels .ensures) in
     (omega (arith, long, start .pre .0), (h .luminosity, h .specular, h .reflection, h .transparency))
 
 -- after the levels
@@ -58,7 +59,7 @@ table x = now (start x .args .table)
 
 long : (x : tie.After-slice-known3) → length (x .before .before .put-levels2 .last .0) ≡ length (table x)
 long x =
-    let at = start x .args .i * 10 in
+    let at = start x .args .i * recordSize in
     nine-length (table x) at (start x .args .r .defined) (start x .pre .0) (first x .put-levels .ensures) (x .before .before .put-levels2 .ensures)
 
 slice-write-table-2 : tie.Need-slice-write-table-2
@@ -69,7 +70,7 @@ same-length c = rw length-set (long c)
 
 returns : tie.Need-returns
 returns c =
-    let at = start c .args .i * 10 in
+    let at = start c .args .i * recordSize in
     ten (table c) at (start c .args .r .defined) (start c .pre .0) (first c .put-levels .ensures) (c .before .before .put-levels2 .ensures) _
 
 pub store-spec : {M : Type 1} → statement M

@@ -36,7 +36,7 @@ returns-3 c =
     let x = p .before .before .before in
     let u = x .before .before in
     lwob-entry-put _ (u .before .before .before .before .pre) (rw (x .n .given .1) at (u .u2 .ensures)) (p .put-u2-vertices .ensures)
-    (rw (y .sign .given .1) at (g .surface-number .ensures)) (q .put-words .ensures)
+    (rw (y .sign .given .1) at (g .surface-number .ensures)) (q .put-polygon-words .ensures)
 
 pub put-lwob-entry-spec : {M : Type 1} → statement M
 put-lwob-entry-spec =

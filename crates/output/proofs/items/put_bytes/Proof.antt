@@ -5,7 +5,7 @@ use native.Mathlib.Omega.{arith}
 use lib.ListN.{length, drop}
 use borrow.Author.Needs.{needs}
 use Rattle.format.proofs.Indexed.{past-end}
-use Rattle.output.proofs.PutSoFar.{byte-more, nothing, a-byte, PutSoFar, begin, room, turn, end}
+use Rattle.output.proofs.PutSoFar.{byte-more, wrote-none, a-byte, PutSoFar, begin, room, turn, end}
 use Rattle.output.proofs.items.put_bytes.Statement.{statement}
 use Rattle.output.proofs.items.put_bytes.Tie as tie
 
@@ -27,7 +27,7 @@ add-next c = let r = room (c .before .before .loop .inv) (byte-more _ _ (c .befo
 loop-again : tie.Need-loop-again Inv-loop μ-loop
 loop-again c =
     let r = room (c .before .before .loop .inv) (byte-more _ _ (c .before .loop-test .taken)) in
-    turn (c .before .before .loop .inv) (byte-more _ _ (c .before .loop-test .taken)) (a-byte nothing _ (omega (arith, r)) refl)
+    turn (c .before .before .loop .inv) (byte-more _ _ (c .before .loop-test .taken)) (a-byte wrote-none _ (omega (arith, r)) refl)
 
 returns : tie.Need-returns Inv-loop μ-loop
 returns c = end (c .before .loop .inv) (past-end _ _ (c .loop-test .left))

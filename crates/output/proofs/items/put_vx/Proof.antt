@@ -3,7 +3,7 @@ use native.Mathlib.Omega.{arith}
 use borrow.Author.Tests.{lt-ltb, le-ltb}
 use borrow.Author.Needs.{needs}
 use Rattle.format.specs.Canonical.{vxBytes}
-use Rattle.output.proofs.PutSoFar.{short-vx, long-vx}
+use Rattle.format.proofs.CanonicalLengths.{short-vx, long-vx}
 use Rattle.output.proofs.items.put_vx.Statement.{statement}
 use Rattle.output.proofs.items.put_vx.Tie as tie
 

@@ -5,7 +5,7 @@ use Prim.Native.Nat.{_/_}
 use lib.Dec.{leb}
 use lib.ListN.{length}
 use Rattle.format.specs.Bytes.{every}
-use Rattle.format.specs.Mesh.{Needs, Tables}
+use Rattle.format.specs.Mesh.{Needs, Tables, pointSize, polygonSize, recordSize}
 use Rattle.format.specs.Answer.{fits}
 use Rattle.validate.specs.Contracts.{needsIn}
 use Rattle.read_answer.proofs.room.has_room.Statement.{statement}
@@ -13,11 +13,11 @@ use Rattle.read_answer.proofs.room.has_room.Tie as tie
 
 -- the tests, taken together from the left
 tests : (n : Needs) (t : Tables)
-    → ((((leb (n .points) (length (t .points) / 3) && leb (n .polygons) (length (t .polygons) / 3)) && leb (n .vertices) (length (t .vertices))) && leb (n .names) (length (t .names))) && leb (n .nameBytes) (length (t .nameBytes))) && leb (n .names) (length (t .records) / 10)
+    → ((((leb (n .points) (length (t .points) / pointSize) && leb (n .polygons) (length (t .polygons) / polygonSize)) && leb (n .vertices) (length (t .vertices))) && leb (n .names) (length (t .names))) && leb (n .nameBytes) (length (t .nameBytes))) && leb (n .names) (length (t .records) / recordSize)
     ≡ fits n t
 unfolding fits every
 tests n t =
-    together (leb (n .points) (length (t .points) / 3)) (leb (n .polygons) (length (t .polygons) / 3)) (leb (n .vertices) (length (t .vertices))) (leb (n .names) (length (t .names))) (leb (n .nameBytes) (length (t .nameBytes))) (leb (n .names) (length (t .records) / 10))
+    together (leb (n .points) (length (t .points) / pointSize)) (leb (n .polygons) (length (t .polygons) / polygonSize)) (leb (n .vertices) (length (t .vertices))) (leb (n .names) (length (t .names))) (leb (n .nameBytes) (length (t .nameBytes))) (leb (n .names) (length (t .records) / recordSize))
   where
     together : (a b c d e f : Bool) → ((((a && b) && c) && d) && e) && f ≡ a && (b && (c && (d && (e && (f && true)))))
     together false b c d e f = refl

@@ -1,6 +1,7 @@
 -- Without points and names before it the chunk is out of order; else the body of its tag decides (`ChunkCounts`).
 use borrow.Author.Needs.{needs}
 use borrow.Author.Tests.{eq-eqb, ne-eqb}
+use Rattle.format.specs.Bytes.{number}
 use Rattle.validate_chunk.proofs.ChunkCounts.{adds-faces, adds-patches, in-order, too-early}
 use Rattle.validate_chunk.proofs.chunk.lwob_polygons.Statement.{statement}
 use Rattle.validate_chunk.proofs.chunk.lwob_polygons.Tie as tie
@@ -14,6 +15,7 @@ returns-2 c =
     rw (u .points .given .1, c .before .enum-told2 .given .1) (too-early _ (c .out-of-order2 .ensures))
 
 returns-3 : tie.Need-returns-3
+unfolding number
 returns-3 c =
     let t = c .before .before in
     let n = t .before .before in
@@ -21,6 +23,7 @@ returns-3 c =
     rw (p .points .given .1, n .names .given .1, eq-eqb _ _ (t .if1 .taken)) (in-order (adds-faces _ _) (c .before .faces-body .ensures) (c .of-polygons .ensures))
 
 returns-4 : tie.Need-returns-4
+unfolding number
 returns-4 c =
     let t = c .before .before in
     let n = t .before .before in

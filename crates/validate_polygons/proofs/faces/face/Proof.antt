@@ -5,8 +5,8 @@ use borrow.Author.Needs.{needs}
 use Rattle.format.specs.Bodies.{face}
 use Rattle.format.specs.Items.{_andThen_, _>>=_, _or_unless_}
 use Rattle.format.proofs.ReaderSteps.{on, on-some, off, given, good-some, bad-some}
-use Rattle.validate_vertices.proofs.SignedSurfaces.{names-one, lwob-entry-stops}
-use Rattle.validate_details.proofs.DetailsBySign.{by-sign}
+use Rattle.polygon_vertices.proofs.SignedSurfaces.{names-one, lwob-entry-stops}
+use Rattle.polygon_details.proofs.DetailsBySign.{by-sign}
 use Rattle.validate_polygons.proofs.faces.face.Statement.{statement}
 use Rattle.validate_polygons.proofs.faces.face.Tie as tie
 

@@ -4,7 +4,7 @@ use borrow.Author.Needs.{needs}
 use Rattle.format.specs.Bodies.{patch}
 use Rattle.format.specs.Items.{_andThen_, _>>=_, _or_unless_}
 use Rattle.format.proofs.ReaderSteps.{on-some, off, given, good-some, bad-some}
-use Rattle.validate_vertices.proofs.SignedSurfaces.{plain-one, lwob-entry-stops}
+use Rattle.polygon_vertices.proofs.SignedSurfaces.{plain-one, lwob-entry-stops}
 use Rattle.validate_polygons.proofs.patches.patch.Statement.{statement}
 use Rattle.validate_polygons.proofs.patches.patch.Tie as tie
 

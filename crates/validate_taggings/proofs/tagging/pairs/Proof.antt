@@ -4,16 +4,15 @@ use Prim.Native.Nat.{_-_}
 use native.Mathlib.Omega.{arith}
 use lib.ListN.{length, drop}
 use borrow.Author.Needs.{needs}
-use Rattle.format.specs.Contracts.{keep, nothing}
+use Rattle.format.specs.Contracts.{keep, nothing, taggingPairs}
 use Rattle.format.specs.Bodies.{tagging, pair}
 use Rattle.format.proofs.Entries.{ManyLoop, many-begin, many-turn, many-stop, many-end}
 use Rattle.format.proofs.ReaderSteps.{used-up, faulty}
-use Rattle.validate_taggings.specs.Contracts.{pairsOf}
 use Rattle.validate_taggings.proofs.tagging.pairs.Statement.{statement}
 use Rattle.validate_taggings.proofs.tagging.pairs.Tie as tie
 
 abbrev Inv-loop : tie.InvT-loop
-Inv-loop s polygons names at₀ at = ManyLoop (keep nothing (pairsOf polygons names at₀ (drop at₀ s))) (pair polygons names) s at (λ ps. tt)
+Inv-loop s polygons names at₀ at = ManyLoop (keep nothing (taggingPairs polygons names at₀ (drop at₀ s))) (pair polygons names) s at (λ ps. tt)
 
 abbrev μ-loop : tie.MeasureT-loop
 μ-loop s polygons names at₀ at = length s - at

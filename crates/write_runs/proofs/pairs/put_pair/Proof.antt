@@ -3,13 +3,13 @@ use Prim.Native.Nat.{_-_}
 use native.Mathlib.Omega.{arith}
 use borrow.Author.Needs.{needs}
 use Rattle.format.proofs.CanonicalLengths.{length-bytes}
-use Rattle.output.proofs.PutSoFar.{nothing, then-wrote}
-use Rattle.lengths.proofs.Pairs.{no-pair, a-pair, pair-parts}
+use Rattle.output.proofs.PutSoFar.{wrote-none, then-wrote}
+use Rattle.mesh.proofs.Pairs.{no-pair, a-pair, pair-parts}
 use Rattle.write_runs.proofs.pairs.put_pair.Statement.{statement}
 use Rattle.write_runs.proofs.pairs.put_pair.Tie as tie
 
 returns : tie.Need-returns
-returns c = rw (no-pair (c .before .before .args .i) (c .before .before .args .surface) (c .if1 .taken)) nothing
+returns c = rw (no-pair (c .before .before .args .i) (c .before .before .args .surface) (c .if1 .taken)) wrote-none
 
 put-vx-requires : tie.Need-put-vx-requires
 put-vx-requires c κs =

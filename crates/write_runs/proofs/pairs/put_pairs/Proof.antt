@@ -1,7 +1,7 @@
 -- A walk over the surfaces of a run: each pair is put behind those before it.
-use Prim.Native.Nat.{ℕ, _-_, _*_, _≤_}
+use Prim.Native.Nat.{ℕ, _+_, _-_, _*_, _≤_}
 use mathlib.Core.Path.{_≡_, refl}
-use mathlib.Core.List.{List}
+use mathlib.Core.List.{List, _∷_}
 use native.Mathlib.Omega.{arith}
 use lib.ListN.{length}
 use borrow.Author.Needs.{needs}
@@ -10,9 +10,9 @@ use Rattle.format.specs.Mesh.{polygonSize}
 use Rattle.mesh.specs.Lent.{column}
 use Rattle.mesh.proofs.ColumnWalk as surfaces
 use Rattle.mesh.proofs.ColumnWalk.{ColumnWalk}
-use Rattle.lengths.specs.Sizes.{pairsFrom}
-use Rattle.output.proofs.PutSoFar.{PutSoFar, begin, room, turn, end}
-use Rattle.lengths.proofs.Pairs.{pairs-left}
+use Rattle.mesh.specs.Polygons.{pairOf, pairsFrom}
+use Rattle.output.proofs.PutSoFar.{NextPart, PutSoFar, begin, room, turn, end}
+use Rattle.mesh.proofs.Pairs.{pairs-left}
 use Rattle.write_runs.proofs.pairs.put_pairs.Statement.{statement}
 use Rattle.write_runs.proofs.pairs.put_pairs.Tie as tie
 
@@ -21,6 +21,9 @@ record PairsPut (run t : List ℕ) (at : ℕ) (t′ : List ℕ) (next i entry : 
   numbered : entry ≡ i * polygonSize
   few : length run ≤ polygonSize * entryLimit
   walk : ColumnWalk run polygonSize 2 (λ ss. PutSoFar (pairsFrom 0 (column polygonSize 2 run)) (pairsFrom i ss) t at t′ next) entry
+
+next-pair : (i s : ℕ) (ss : List ℕ) → NextPart (pairsFrom i (s ∷ ss)) (pairOf i s) (pairsFrom (i + 1) ss)
+next-pair i s ss = record { is = pairs-left i s ss }
 
 abbrev Inv-loop : tie.InvT-loop
 Inv-loop out₀ at run next₀ i₀ entry₀ out next i entry = PairsPut run out₀ at out next i entry
@@ -36,7 +39,7 @@ put-pair-requires c κs =
     let u = c .before .before in
     let w = u .before .loop .inv in
     let h = surfaces.here (w .walk) (omega arith) (u .loop-test .taken) (c .surface .ensures) in
-    (omega (arith, w .numbered, w .few, u .loop-test .taken), room h (pairs-left _ _ _))
+    (omega (arith, w .numbered, w .few, u .loop-test .taken), room h (next-pair _ _ _))
 
 add-i : tie.Need-add-i Inv-loop μ-loop
 add-i c =
@@ -50,7 +53,7 @@ loop-again c =
     let u = v .before .before in
     let w = u .before .loop .inv in
     let h = surfaces.here (w .walk) (omega arith) (u .loop-test .taken) (v .surface .ensures) in
-    let puts = turn h (pairs-left _ _ _) (c .before .before .put-pair .ensures) in
+    let puts = turn h (next-pair _ _ _) (c .before .before .put-pair .ensures) in
     record { numbered = omega (arith, w .numbered); few = w .few; walk = surfaces.turn (w .walk) (omega arith) (u .loop-test .taken) puts }
 
 same-length : tie.Need-same-length Inv-loop μ-loop

@@ -4,12 +4,12 @@ use native.Mathlib.Omega.{arith}
 use lib.ListN.{length}
 use borrow.Author.Needs.{needs}
 use Rattle.mesh.proofs.PolygonWalk.{counted, ordered, room}
-use Rattle.write_runs.proofs.PolsEntries.{PolygonsPut, begin, room as put-room, turn, end}
+use Rattle.write_runs.proofs.PolsEntries.{PolsPut, begin, room as put-room, turn, end}
 use Rattle.write_runs.proofs.polygons.put_polygons.Statement.{statement}
 use Rattle.write_runs.proofs.polygons.put_polygons.Tie as tie
 
 abbrev Inv-loop : tie.InvT-loop
-Inv-loop out₀ at polygons vertices next₀ entry₀ first₀ out next entry first = PolygonsPut polygons vertices out₀ at out next entry first
+Inv-loop out₀ at polygons vertices next₀ entry₀ first₀ out next entry first = PolsPut polygons vertices out₀ at out next entry first
 
 abbrev μ-loop : tie.MeasureT-loop
 μ-loop out₀ at polygons vertices next₀ entry₀ first₀ out next entry first = length polygons - entry

@@ -1,0 +1,55 @@
+-- The pairs of a PTAG by the surfaces of a run: the first surface has the first pair, or none.
+use Prim.Native.Nat.{ℕ, suc, _+_, _-_}
+use mathlib.Core.Path.{_≡_, refl, ap, _∙_}
+use mathlib.Core.List.{List, [], _∷_, _++_, map}
+use mathlib.Core.Bool.{Bool, true, false}
+use native.Mathlib.Numerals.{add-one}
+use native.Mathlib.Omega.{arith}
+use lib.Dec.{eqb}
+use lib.ListN.{length, length-append}
+use borrow.Author.Tests.{eq-eqb, ne-eqb}
+use Rattle.format.specs.Bytes.{if_then_else_, joined}
+use Rattle.format.specs.Mesh.{Polygon}
+use Rattle.format.specs.Canonical.{bytes, vxBytes, pairsOf, pairBytes}
+use Rattle.format.specs.Contracts.{total}
+use Rattle.format.proofs.CanonicalLengths.{length-vx}
+use Rattle.mesh.specs.Polygons.{pairOf, pairsFrom}
+
+-- they are the specification's
+pub pairs-are : (i : ℕ) (ps : List Polygon) → joined (map pairBytes (pairsOf i ps)) ≡ pairsFrom i (map (λ p. p .surface) ps)
+unfolding pairsOf pairsFrom joined
+pairs-are i [] = refl
+pairs-are i (p ∷ ps) = go (eqb (p .surface) 0) (pairs-are (suc i) ps)
+  where
+    go : (b : Bool) → joined (map pairBytes (pairsOf (suc i) ps)) ≡ pairsFrom (suc i) (map (λ p. p .surface) ps)
+        → joined (map pairBytes ((if b then [] else (i, p .surface) ∷ []) ++ pairsOf (suc i) ps)) ≡ (if b then [] else pairBytes (i, p .surface)) ++ pairsFrom (suc i) (map (λ p. p .surface) ps)
+    go true later = later
+    go false later = ap (λ (l : List ℕ). pairBytes (i, p .surface) ++ l) later
+
+module _ (i s : ℕ) (ss : List ℕ) where
+  pub pairs-left : pairsFrom i (s ∷ ss) ≡ pairOf i s ++ pairsFrom (i + 1) ss
+  unfolding pairsFrom
+  pairs-left = rw add-one
+
+  pub pairs-more : length (pairsFrom i (s ∷ ss)) ≡ length (pairOf i s) + length (pairsFrom (i + 1) ss)
+  pairs-more = ap length pairs-left ∙ length-append (pairOf i s) (pairsFrom (i + 1) ss)
+
+-- a pair has some bytes, so there are none where there are no bytes
+pub some-pairs : (t : ℕ × ℕ) (ts : List (ℕ × ℕ)) → total pairBytes (t ∷ ts) ≡ 0 → ⊥
+unfolding joined pairBytes
+some-pairs t ts none =
+    let one = bytes 2 (t .1 - 1) in
+    omega (arith, none, length-append (vxBytes (t .0) ++ one) (joined (map pairBytes ts)), length-append (vxBytes (t .0)) one, length-vx (t .0))
+
+-- ---- one of them
+
+module _ (i surface : ℕ) where
+  pub no-pair : surface ≡ 0 → pairOf i surface ≡ []
+  no-pair e = rw (eq-eqb surface 0 e)
+
+  pub a-pair : (surface ≡ 0 → ⊥) → pairOf i surface ≡ vxBytes i ++ bytes 2 (surface - 1)
+  unfolding pairBytes
+  a-pair e = rw (ne-eqb surface 0 e)
+
+  pub pair-parts : (surface ≡ 0 → ⊥) → length (pairOf i surface) ≡ length (vxBytes i) + length (bytes 2 (surface - 1))
+  pair-parts e = ap length (a-pair e) ∙ length-append (vxBytes i) (bytes 2 (surface - 1))
