@@ -108,11 +108,13 @@ record Here (kind : Kind) (file : List ℕ) (place : ℕ) (b : Before) : Type 0 
   most : place ≤ length file
 
 module _ (file : List ℕ) (kind : Kind) where
-  no-header : (b : Before) (place : ℕ) → Here kind file place b → place < length file → wellFormed 4 (drop place file) ≡ false → FaultAt kind file BadHeader (placeOf place 0)
+  no-header : (b : Before) (place : ℕ) → Here kind file place b → place < length file → wellFormed 4 (drop place file) ≡ false
+      → FaultAt kind file BadHeader (placeOf place 0)
   unfolding numberOf chunkJudged chunkOf _andThen_
   no-header b place here inside ok = record { of-chunk = refl; chunk = place; inside = inside; before = b; earlier = here .earlier; at = 0; faulty = rw ok; place-is = refl }
 
-  walk-chunk : (b : Before) (place : ℕ) (rest : Chunks) → Here kind file place b → place < length file → (ok : wellFormed 4 (drop place file) ≡ true) → (w : Whole file place)
+  walk-chunk : (b : Before) (place : ℕ) (rest : Chunks) → Here kind file place b → place < length file → (ok : wellFormed 4 (drop place file) ≡ true)
+      → (w : Whole file place)
       → ((part : Part) → Here kind file (place + sizeAt file place) (after b part) → Walked kind file (walk kind (after b part) (place + sizeOf 4 (length (w .got .value .body))) rest))
       → Walked kind file (walk kind b place (chunk (w .got .value .tag) (w .got .value .body) rest))
   unfolding walk located _andThen_

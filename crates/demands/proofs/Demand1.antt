@@ -22,7 +22,8 @@ use Rattle.demands.proofs.Refusals.{InOutcome, rules-in}
 
 module _ {file : List ℕ} {t t′ : Tables} {a : Answer} where
   -- the rules give a mesh: 0 or 16
-  given : (b : Bool) (u : Tables) → (Refused file → ⊥) → a .number ≡ (if b then 0 else noRoom) → a .place ≡ 0 → t′ ≡ (if b then u else t) → ReadAnswers file t a t′
+  given : (b : Bool) (u : Tables) → (Refused file → ⊥) → a .number ≡ (if b then 0 else noRoom) → a .place ≡ 0 → t′ ≡ (if b then u else t)
+      → ReadAnswers file t a t′
   given true u none number place l = record {
     exactly = (rw number (λ e. absurd (true≢false (sym e))), λ r. absurd (none r));
     told = λ r. absurd (none r);

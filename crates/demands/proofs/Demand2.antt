@@ -26,7 +26,7 @@ use Rattle.laws.proofs.Meshes.{good}
 use Rattle.laws.proofs.RoundTrip.{round-trip}
 use Rattle.laws.proofs.Tables.{mesh-from-tables, tables-back, good-mesh-tables, tables-of-mesh}
 use Rattle.laws.proofs.WrittenBack.{wrote, written-back}
-use Rattle.demands.specs.Demand2.{Readable, accepted, ReadsMesh, Writable, Wrote, WritesMesh, MeshWithin, SameMesh, JustFits, Demand2}
+use Rattle.demands.specs.Demand2.{Readable, accepted, ReadsMesh, Writable, WroteMesh, WritesMesh, MeshWithin, SameMesh, JustFits, Demand2}
 use Rattle.validate.proofs.NeedsBound.{few-needs}
 use Rattle.demands.proofs.Refusals.{InOutcome, rules-in}
 
@@ -69,7 +69,8 @@ writes-mesh {t} {out} {out′} {a} w =
 
 -- ---- every mesh, and back
 
-every-mesh : {m : Mesh} {out out′ : List ℕ} {a : Written} → MeshWithin m → length (canonical m) ≤ length out → Writes (tables m) out a out′ → Wrote m out a out′
+every-mesh : {m : Mesh} {out out′ : List ℕ} {a : Written} → MeshWithin m → length (canonical m) ≤ length out → Writes (tables m) out a out′
+    → WroteMesh m out a out′
 every-mesh {m} {out} f room w =
     let back : meshFrom (tables m) ≡ m = mesh-from-tables m in
     let x : Writable (tables m) out = record { mesh = tables-of-mesh m (f .good) (f .limit); limit = rw back (omega (arith, f .limit)); room = rw back room } in
@@ -81,7 +82,8 @@ read-back {m} {file} {t} e room r =
     let x : Readable file t = record { given = record { mesh = m; skipped = 0; details = 0; by-rules = e }; room = room } in
     record { by-rules = e; answer = reads-mesh r .answer x; holds = reads-mesh r .holds x }
 
-mesh-again : {m : Mesh} {out out′ : List ℕ} {w : Written} {t t′ : Tables} {a : Answer} → MeshWithin m → length (canonical m) ≤ length out → Writes (tables m) out w out′
+mesh-again : {m : Mesh} {out out′ : List ℕ} {w : Written} {t t′ : Tables} {a : Answer} → MeshWithin m → length (canonical m) ≤ length out
+    → Writes (tables m) out w out′
     → fits (needs m) t ≡ true → Reads (take (w .length) out′) t a t′ → SameMesh m (tables m) (take (w .length) out′) t a t′
 mesh-again {m} {out} {out′} {w} f long-enough done room r =
     let x = every-mesh f long-enough done in
@@ -129,12 +131,14 @@ mesh-not-17 : (t : Tables) (room : ℕ) → isMesh t ≡ true → written t room
 unfolding written
 mesh-not-17 t room mesh = rw mesh (by (ltb fileLimit (length (canonical (meshFrom t)))) (ltb room (length (canonical (meshFrom t)))))
   where
-    by : (y z : Bool) → (if y then says tooLong 0 else if z then says noRoom (length (canonical (meshFrom t))) else says 0 (length (canonical (meshFrom t)))) .number ≢ notMesh
+    by : (y z : Bool)
+        → (if y then says tooLong 0 else if z then says noRoom (length (canonical (meshFrom t))) else says 0 (length (canonical (meshFrom t)))) .number ≢ notMesh
     by true z e = omega arith
     by false true e = omega arith
     by false false e = omega arith
 
-not-17 : {file : List ℕ} {t t′ : Tables} {a : Answer} {out out′ : List ℕ} {w : Written} → Reads file t a t′ → a .number ≡ 0 → JustFits (a .needs) t → Writes t′ out w out′ → w .number ≢ notMesh
+not-17 : {file : List ℕ} {t t′ : Tables} {a : Answer} {out out′ : List ℕ} {w : Written} → Reads file t a t′ → a .number ≡ 0 → JustFits (a .needs) t
+    → Writes t′ out w out′ → w .number ≢ notMesh
 not-17 {file} {t} {t′} {a} {out} {out′} {w} r zero h done said =
     let x : Readable file t = reads-mesh r .exactly .0 zero in
     let m : Mesh = x .given .mesh in

@@ -75,7 +75,7 @@ too-short n t (names h) e = omega (arith, leb-true (n .names) (length (t .names)
 too-short n t (name-bytes h) e = omega (arith, leb-true (n .nameBytes) (length (t .nameBytes)) (every-at _ 4 e))
 too-short n t (records h) e = omega (arith, leb-true (n .names) (length (t .records) / recordSize) (every-at _ 5 e))
 
-no-room : {file : List ℕ} {t : Tables} → NoRoom file t → room.NoRoom (rules file) t
+no-room : {file : List ℕ} {t : Tables} → NoRoom file t → room.MeshWithoutRoom (rules file) t
 no-room {file} {t} n = record {
   mesh = n .given .mesh;
   skipped = n .given .skipped;

@@ -31,7 +31,8 @@ use Rattle.demands.proofs.Boundaries.{sizeAt, whole, neither, headed}
 
 module _ (s : List ℕ) (kind : Kind) (e : form s ≡ fine kind) where
   -- a longer file with the same tag and type, and with its own length, is of the same kind
-  longer-form : (l : List ℕ) → take 4 l ≡ take 4 s → take 4 (drop 8 l) ≡ take 4 (drop 8 s) → length s ≤ length l → length l ≤ fileLimit → number (take 4 (drop 4 l)) + 8 ≡ length l
+  longer-form : (l : List ℕ) → take 4 l ≡ take 4 s → take 4 (drop 8 l) ≡ take 4 (drop 8 s) → length s ≤ length l → length l ≤ fileLimit
+      → number (take 4 (drop 4 l)) + 8 ≡ length l
       → form l ≡ fine kind
   unfolding form _andThen_
   longer-form l tag type more few told =

@@ -51,7 +51,7 @@ pub record Writable (t : Tables) (out : List ℕ) : Type 0 where
   pub room : length (canonical (meshFrom t)) ≤ length out
 
 -- a writer put the canonical file of the mesh m into the output out, which comes back as out′
-pub record Wrote (m : Mesh) (out : List ℕ) (a : Written) (out′ : List ℕ) : Type 0 where
+pub record WroteMesh (m : Mesh) (out : List ℕ) (a : Written) (out′ : List ℕ) : Type 0 where
   -- 0, the place 0, and the length: "bytes written on 0"
   pub answer : a ≡ says 0 (length (canonical m))
   -- "output past that length is unchanged"
@@ -60,7 +60,7 @@ pub record Wrote (m : Mesh) (out : List ℕ) (a : Written) (out′ : List ℕ) :
 -- a writer answers a for the tables t and the output out, which comes back as out′
 pub record WritesMesh (t : Tables) (out : List ℕ) (a : Written) (out′ : List ℕ) : Type 0 where
   pub exactly : (a .number ≡ 0) ↔ Writable t out
-  pub holds : Writable t out → Wrote (meshFrom t) out a out′
+  pub holds : Writable t out → WroteMesh (meshFrom t) out a out′
 
 -- ---- every mesh, and back
 
@@ -95,11 +95,13 @@ pub record Demand2 : Type 0 where
   -- tables are written exactly when they are a mesh whose file is within the limit and fits
   pub of-writer : {t : Tables} {out out′ : List ℕ} {a : Written} → Writes t out a out′ → WritesMesh t out a out′
   -- "Every mesh whose file is within the limit and fits our buffer is written"
-  pub every-mesh : {m : Mesh} {out out′ : List ℕ} {a : Written} → MeshWithin m → length (canonical m) ≤ length out → Writes (tables m) out a out′ → Wrote m out a out′
+  pub every-mesh : {m : Mesh} {out out′ : List ℕ} {a : Written} → MeshWithin m → length (canonical m) ≤ length out → Writes (tables m) out a out′
+      → WroteMesh m out a out′
   -- and the rules give its file that mesh
   pub back : {m : Mesh} → MeshWithin m → rules (canonical m) ≡ gives m 0 0
   -- "and read again with room enough is the same mesh": the bytes written, read into any tables that have room
-  pub again : {m : Mesh} {out out′ : List ℕ} {w : Written} {t t′ : Tables} {a : Answer} → MeshWithin m → length (canonical m) ≤ length out → Writes (tables m) out w out′
+  pub again : {m : Mesh} {out out′ : List ℕ} {w : Written} {t t′ : Tables} {a : Answer} → MeshWithin m → length (canonical m) ≤ length out
+      → Writes (tables m) out w out′
       → fits (needs m) t ≡ true → Reads (take (w .length) out′) t a t′ → SameMesh m (tables m) (take (w .length) out′) t a t′
   -- the same over tables: those that were written, whatever they are, stand at the front of those read into
   pub tables-again : {s : Tables} {out out′ : List ℕ} {w : Written} {t t′ : Tables} {a : Answer} → Writes s out w out′ → w .number ≡ 0

@@ -4,9 +4,9 @@ use mathlib.Core.List.{List}
 use Rattle.format.specs.Mesh.{Tables}
 use Rattle.format.specs.Answer.{Reads}
 use Rattle.format.specs.Written.{Writes}
-use Rattle.read_answer.specs.declared.Answer.{Answer as ReadAnswer}
+use Rattle.read_answer.specs.declared.ReadAnswer.{ReadAnswer}
 use Rattle.read_answer.specs.Reads.{answerAs as readAs}
-use Rattle.writer.specs.declared.Answer.{Answer as WriteAnswer}
+use Rattle.writer.specs.declared.WriteAnswer.{WriteAnswer}
 use Rattle.writer.specs.Writes.{answerAs as writeAs}
 use Rattle.lwo.specs.declared.LwoAnswer.{LwoAnswer}
 use Rattle.lwo.specs.declared.LwoWritten.{LwoWritten}

@@ -83,7 +83,8 @@ pub written-too-long : (t : Tables) (room : ℕ) → eqb (written t room .number
 unfolding written
 written-too-long t room = let n = length (canonical (meshFrom t)) in by (isMesh t) (ltb fileLimit n) (ltb room n) n
   where
-    by : (mesh over short : Bool) (n : ℕ) → eqb ((if not mesh then says 17 0 else if over then says 18 0 else if short then says 16 n else says 0 n) .number) 18 ≡ (mesh && over)
+    by : (mesh over short : Bool) (n : ℕ)
+        → eqb ((if not mesh then says 17 0 else if over then says 18 0 else if short then says 16 n else says 0 n) .number) 18 ≡ (mesh && over)
     by true true short n = refl
     by true false true n = refl
     by true false false n = refl

@@ -59,7 +59,8 @@ module _ (kind : Kind) (b : Before) (place : ℕ) where
       by (fine part) = more part (walk kind (after b part) (place + sizeOf 4 (length body)) rest)
       by (fault why at) = refl
 
-pub next : (kind : Kind) (b : Before) (place t : ℕ) (body : List ℕ) (rest : Chunks) (parts : List Part) → walkParts kind b place (chunk t body rest) ≡ fine parts
+pub next : (kind : Kind) (b : Before) (place t : ℕ) (body : List ℕ) (rest : Chunks) (parts : List Part)
+    → walkParts kind b place (chunk t body rest) ≡ fine parts
     → Next kind b place t body rest parts
 next kind b place t body rest parts e =
     let x = then-fine (located place (judge kind b t body)) _ (sym (parts-chunk kind b place t body rest) ∙ e) in
@@ -67,7 +68,8 @@ next kind b place t body rest parts e =
     record { part = x .0; later = y .0; here = located-fine place (judge kind b t body) (x .1); onward = y .1; both = same-fine (y .2) }
 
 -- with places or without
-pub parts-fine : (kind : Kind) (b : Before) (place : ℕ) (cs : Chunks) {ps : List PartAt} → walk kind b place cs ≡ fine ps → walkParts kind b place cs ≡ fine (partsOf ps)
+pub parts-fine : (kind : Kind) (b : Before) (place : ℕ) (cs : Chunks) {ps : List PartAt} → walk kind b place cs ≡ fine ps
+    → walkParts kind b place cs ≡ fine (partsOf ps)
 unfolding walkParts _andThen_
 parts-fine kind b place cs e = rw e
 

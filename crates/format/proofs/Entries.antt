@@ -30,7 +30,8 @@ module _ {A B C : Type 0} {r : Reader A} {h : A → C} {s : List ℕ} {at : ℕ}
 pub record TimesLoop {A B : Type 0} (goal : Verdict (Got B)) (r : Reader A) (s : List ℕ) (at left : ℕ) (f : List A → B) : Type 0 where
   pub rest : goal ≡ keep f (times left r at (drop at s))
 
-pub times-begin : {A B : Type 0} {r : Reader A} {s : List ℕ} {at n : ℕ} (h f : List A → B) → ((xs : List A) → h xs ≡ f xs) → TimesLoop (keep h (times n r at (drop at s))) r s at n f
+pub times-begin : {A B : Type 0} {r : Reader A} {s : List ℕ} {at n : ℕ} (h f : List A → B) → ((xs : List A) → h xs ≡ f xs)
+    → TimesLoop (keep h (times n r at (drop at s))) r s at n f
 times-begin h f e = record { rest = keep-same h f _ e }
 
 module _ {A B : Type 0} {goal : Verdict (Got B)} {r : Reader A} {s : List ℕ} {at left : ℕ} {f : List A → B} (t : TimesLoop goal r s at left f) where
@@ -51,7 +52,8 @@ module _ {A B : Type 0} {goal : Verdict (Got B)} {r : Reader A} {s : List ℕ} {
       by (suc n) l = let e : suc n - 1 ≡ n = omega arith in rw e
 
   module _ {C : Type 0} {h : A → C} (some : 0 < left) where
-    pub times-turn : {f′ : List A → B} {y : C} {next : ℕ} → Says r h s at (got s y next) → ((x : A) (xs : List A) → h x ≡ y → f (x ∷ xs) ≡ f′ xs) → TimesLoop goal r s next (left - 1) f′
+    pub times-turn : {f′ : List A → B} {y : C} {next : ℕ} → Says r h s at (got s y next) → ((x : A) (xs : List A) → h x ≡ y → f (x ∷ xs) ≡ f′ xs)
+        → TimesLoop goal r s next (left - 1) f′
     times-turn {f′} w same = record { rest = t .rest ∙ rw (again some) (step f (times (left - 1) r) f′ w same) }
 
     pub times-stop : {why : Fault} {p : ℕ} → Says r h s at (fault why p) → fault why p ≡ goal
@@ -64,7 +66,8 @@ module _ {A : Type 0} (r : Reader A) where
   counted zero at t = refl
   counted (suc n) at t = by (counted n) (r at t)
     where
-      by : ((p : ℕ) (u : List ℕ) → keep length (times n r p u) ≡ keep (λ xs. n) (times n r p u)) → (v : Verdict (Got A)) → keep length (v andThen λ g. keep (λ xs. g .value ∷ xs) (times n r (g .next) (g .left))) ≡ keep (λ xs. suc n) (v andThen λ g. keep (λ xs. g .value ∷ xs) (times n r (g .next) (g .left)))
+      by : ((p : ℕ) (u : List ℕ) → keep length (times n r p u) ≡ keep (λ xs. n) (times n r p u)) → (v : Verdict (Got A))
+          → keep length (v andThen λ g. keep (λ xs. g .value ∷ xs) (times n r (g .next) (g .left))) ≡ keep (λ xs. suc n) (v andThen λ g. keep (λ xs. g .value ∷ xs) (times n r (g .next) (g .left)))
       by rest (fault why p) = refl
       by rest (fine g) =
           let v = times n r (g .next) (g .left) in
@@ -122,7 +125,8 @@ module _ {A B : Type 0} {goal : Verdict (Got B)} {r : Reader A} {s : List ℕ} {
     once = burnt (t .fuel) (t .enough)
 
     module _ {C : Type 0} {h : A → C} where
-      pub many-turn : {f′ : List A → B} {y : C} {next : ℕ} → Says r h s at (got s y next) → at < next → ((x : A) (xs : List A) → h x ≡ y → f (x ∷ xs) ≡ f′ xs) → ManyLoop goal r s next f′
+      pub many-turn : {f′ : List A → B} {y : C} {next : ℕ} → Says r h s at (got s y next) → at < next → ((x : A) (xs : List A) → h x ≡ y → f (x ∷ xs) ≡ f′ xs)
+          → ManyLoop goal r s next f′
       many-turn {f′} w onward same = record {
         fuel = t .fuel - 1;
         enough = omega (arith, t .enough);

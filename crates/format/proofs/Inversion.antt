@@ -31,15 +31,18 @@ module _ {A B : Type 0} (r : Reader A) (k : A → Reader B) where
   unfolding _>>=_ _andThen_
   then-at w = rw (exactly w)
 
-  pub sound-next : {s : List ℕ} {at : ℕ} {x : A} {next : ℕ} → Says r itself s at (got s x next) → Succeeds ((r >>= k) at (drop at s)) → Succeeds (k x next (drop next s))
+  pub sound-next : {s : List ℕ} {at : ℕ} {x : A} {next : ℕ} → Says r itself s at (got s x next) → Succeeds ((r >>= k) at (drop at s))
+      → Succeeds (k x next (drop next s))
   sound-next w v = rw (then-at w) at v
 
 module _ {A : Type 0} {r : Reader A} (why : Fault) (ok : A → Bool) {s : List ℕ} {at : ℕ} where
-  good-if : (b : Bool) {x : A} {next : ℕ} → Says r itself s at (got s x next) → Succeeds ((r or why unless ok) at (drop at s)) → ok x ≡ b → Says (r or why unless ok) itself s at (got s x next)
+  good-if : (b : Bool) {x : A} {next : ℕ} → Says r itself s at (got s x next) → Succeeds ((r or why unless ok) at (drop at s)) → ok x ≡ b
+      → Says (r or why unless ok) itself s at (got s x next)
   good-if true w v e = good why ok w e
   good-if false w v e = absurd (sound-not v (exactly (bad why ok w e)))
 
-  pub sound-good : {x : A} {next : ℕ} → Says r itself s at (got s x next) → Succeeds ((r or why unless ok) at (drop at s)) → Says (r or why unless ok) itself s at (got s x next)
+  pub sound-good : {x : A} {next : ℕ} → Says r itself s at (got s x next) → Succeeds ((r or why unless ok) at (drop at s))
+      → Says (r or why unless ok) itself s at (got s x next)
   sound-good {x} w v = good-if (ok x) w v refl
 
 pub record Used {A : Type 0} (r : Reader A) (header at : ℕ) (b : List ℕ) : Type 0 where
@@ -51,7 +54,8 @@ pub sound-whole : {A : Type 0} (r : Reader A) (header at : ℕ) (b : List ℕ) �
 unfolding whole _andThen_
 sound-whole r header at b w = by (r at b) refl w
   where
-    by : (v : Verdict (Got _)) → r at b ≡ v → Succeeds (v andThen λ g. if empty (g .left) then fine (g .value) else fault WrongLength header) → Used r header at b
+    by : (v : Verdict (Got _)) → r at b ≡ v → Succeeds (v andThen λ g. if empty (g .left) then fine (g .value) else fault WrongLength header)
+        → Used r header at b
     by (fault why p) e u = absurd (sound-not u refl)
     by (fine g) e u = yes (empty (g .left)) refl u
       where
@@ -66,15 +70,19 @@ pub record Entry {A B : Type 0} (r : Reader A) (s : List ℕ) (at : ℕ) (f : Li
   pub more : List A
   pub so : f (first .value ∷ more) ≡ whole
 
-pub many-sound : {A B : Type 0} {goal : Verdict (Got B)} {r : Reader A} {s : List ℕ} {at : ℕ} {f : List A → B} → ManyLoop goal r s at f → at < length s → (w : Succeeds goal) → Entry r s at f (w .value .value)
+pub many-sound : {A B : Type 0} {goal : Verdict (Got B)} {r : Reader A} {s : List ℕ} {at : ℕ} {f : List A → B} → ManyLoop goal r s at f → at < length s
+    → (w : Succeeds goal) → Entry r s at f (w .value .value)
 unfolding _andThen_ _>>=_
 many-sound {goal} {r} {s} {at} {f} t some w = by (r at (drop at s)) refl (sym (t .rest ∙ ap (keep f) (once t some)) ∙ w .is)
   where
-    by : (v : Verdict (Got _)) → r at (drop at s) ≡ v → keep f (v andThen λ g. (upTo (t .fuel - 1) r (g .next) (g .left) andThen λ h. give (g .value ∷ h .value) (h .next) (h .left))) ≡ fine (w .value) → Entry r s at f (w .value .value)
+    by : (v : Verdict (Got _)) → r at (drop at s) ≡ v
+        → keep f (v andThen λ g. (upTo (t .fuel - 1) r (g .next) (g .left) andThen λ h. give (g .value ∷ h .value) (h .next) (h .left))) ≡ fine (w .value)
+        → Entry r s at f (w .value .value)
     by (fault why p) is e = impossible cc
     by (fine g) is e = rest (upTo (t .fuel - 1) r (g .next) (g .left)) e
       where
-        rest : (u : Verdict (Got (List _))) → keep f (u andThen λ h. give (g .value ∷ h .value) (h .next) (h .left)) ≡ fine (w .value) → Entry r s at f (w .value .value)
+        rest : (u : Verdict (Got (List _))) → keep f (u andThen λ h. give (g .value ∷ h .value) (h .next) (h .left)) ≡ fine (w .value)
+            → Entry r s at f (w .value .value)
         rest (fault why p) q = impossible cc
         rest (fine h) q =
             let same : record { value = f (g .value ∷ h .value); next = h .next; left = h .left } ≡ w .value = cc in

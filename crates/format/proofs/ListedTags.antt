@@ -73,12 +73,14 @@ unfolding number all sum joined when_read_ whole upTo many item uint string toZe
 each-keeps LWOB = refl
 each-keeps LWO2 = refl
 
-unlisted-by : (ls : List ListedTag) → all keeps ls ≡ true → (t : ℕ) → ((b : Before) (body : List ℕ) → judgedBy ls b t body ≡ fine skippedChunk) → all (λ l. not (t is l .tag)) ls ≡ true
+unlisted-by : (ls : List ListedTag) → all keeps ls ≡ true → (t : ℕ) → ((b : Before) (body : List ℕ) → judgedBy ls b t body ≡ fine skippedChunk)
+    → all (λ l. not (t is l .tag)) ls ≡ true
 unfolding all
 unlisted-by [] k t e = refl
 unlisted-by (l ∷ ls) k t e = by (t is l .tag) refl (λ q. unlisted-by ls (all-rest keeps l ls k) t (λ b body. rw q at (e b body)))
   where
-    by : (x : Bool) → t is l .tag ≡ x → (t is l .tag ≡ false → all (λ l. not (t is l .tag)) ls ≡ true) → not (t is l .tag) && all (λ l. not (t is l .tag)) ls ≡ true
+    by : (x : Bool) → t is l .tag ≡ x → (t is l .tag ≡ false → all (λ l. not (t is l .tag)) ls ≡ true)
+        → not (t is l .tag) && all (λ l. not (t is l .tag)) ls ≡ true
     by true q later = let s = rw q at (e start []) in absurd (false≢true (sym (not-true _ (all-first keeps l ls k)) ∙ ap isSkipped s))
     by false q later = rw q (later q)
 

@@ -32,7 +32,8 @@ first-names kind b t body ns j =
     .each body (nameList ns) j ns refl
 
 -- after a list of names, no part has any, and the list is still there
-stays : (kind : Kind) (b : Before) (n t : ℕ) (body : List ℕ) (part : Part) → b .names ≡ some n → judge kind b t body ≡ fine part → (namesOf part ≡ []) × (after b part .names ≡ some n)
+stays : (kind : Kind) (b : Before) (n t : ℕ) (body : List ℕ) (part : Part) → b .names ≡ some n → judge kind b t body ≡ fine part
+    → (namesOf part ≡ []) × (after b part .names ≡ some n)
 unfolding added after
 stays kind b n t body part there j =
     always (λ part. (namesOf part ≡ []) × (after b part .names ≡ some n)) kind b t
@@ -46,7 +47,8 @@ stays kind b n t body part there j =
     })
     .each body part j
 
-pub no-more-names : (kind : Kind) (b : Before) (n place : ℕ) (cs : Chunks) (parts : List Part) → b .names ≡ some n → walkParts kind b place cs ≡ fine parts → joined (map namesOf parts) ≡ []
+pub no-more-names : (kind : Kind) (b : Before) (n place : ℕ) (cs : Chunks) (parts : List Part) → b .names ≡ some n → walkParts kind b place cs ≡ fine parts
+    → joined (map namesOf parts) ≡ []
 unfolding joined
 no-more-names kind b n place finished parts there e = rw (← same-fine (sym (parts-finished kind b place) ∙ e)) refl
 no-more-names kind b n place broken parts there e = let bad = sym (parts-broken kind b place) ∙ e in impossible cc

@@ -143,7 +143,8 @@ pub record Holds {A : Type 0} (make : A → Part) (r : Before → Reader Part) (
 abbrev MadeBy : {A : Type 0} → (A → Part) → Part → Type 0
 MadeBy {A} make part = (a : A) × (part ≡ make a)
 
-made : {A : Type 0} (make : A → Part) (ok : Bool) {r : Reader Part} → Makes (MadeBy make) r → (body : List ℕ) {part : Part} → (when ok read r) body ≡ fine part → Made make r body part
+made : {A : Type 0} (make : A → Part) (ok : Bool) {r : Reader Part} → Makes (MadeBy make) r → (body : List ℕ) {part : Part} → (when ok read r) body ≡ fine part
+    → Made make r body part
 unfolding when_read_
 made make ok {r} w body j =
     let x = chosen ok (whole 0 r 8 body) OutOfOrder 0 j in

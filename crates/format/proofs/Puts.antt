@@ -17,7 +17,8 @@ joined-append (xs ∷ xss) yss = rw (joined-append xss yss, append-assoc)
 pub joined-map-append : {A B : Type 0} (f : A → List B) (xs ys : List A) → joined (map f (xs ++ ys)) ≡ joined (map f xs) ++ joined (map f ys)
 joined-map-append f xs ys = ap joined (map-append f xs ys) ∙ joined-append (map f xs) (map f ys)
 
-pub total-append : {A B : Type 0} (f : A → List B) (xs ys : List A) → length (joined (map f (xs ++ ys))) ≡ length (joined (map f xs)) + length (joined (map f ys))
+pub total-append : {A B : Type 0} (f : A → List B) (xs ys : List A)
+    → length (joined (map f (xs ++ ys))) ≡ length (joined (map f xs)) + length (joined (map f ys))
 total-append f xs ys = ap length (joined-map-append f xs ys) ∙ length-append (joined (map f xs)) (joined (map f ys))
 
 pub put-none : (t : List ℕ) (m : ℕ) → Put t m [] t

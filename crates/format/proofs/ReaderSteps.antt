@@ -69,7 +69,8 @@ module _ {A : Type 0} {r : Reader A} {s : List ℕ} {at : ℕ} where
   exactly w = keep-itself _ ∙ sym (w .is)
 
 -- from further back
-further : {A : Type 0} (size size′ : A → ℕ) (at next : ℕ) (v : Verdict (Got A)) → ((y : A) → at + size′ y ≤ next + size y) → Moves size next v → Moves size′ at v
+further : {A : Type 0} (size size′ : A → ℕ) (at next : ℕ) (v : Verdict (Got A)) → ((y : A) → at + size′ y ≤ next + size y) → Moves size next v
+    → Moves size′ at v
 further size size′ at next (fine g) h m = let l = h (g .value) in omega arith
 further size size′ at next (fault why p) h m = tt
 
@@ -85,7 +86,8 @@ module _ {A B C : Type 0} {r : Reader A} (k : A → Reader B) {h : B → C} {s :
   on w v = record { is = rw (exactly w) (v .is) }
 
   module _ {D : Type 0} {g : A → D} where
-    pub on-some : {answer : Verdict (Got C)} {y : D} {next : ℕ} → Says r g s at (got s y next) → ((x : A) → g x ≡ y → Says (k x) h s next answer) → Says (r >>= k) h s at answer
+    pub on-some : {answer : Verdict (Got C)} {y : D} {next : ℕ} → Says r g s at (got s y next) → ((x : A) → g x ≡ y → Says (k x) h s next answer)
+        → Says (r >>= k) h s at answer
     unfolding _andThen_ _>>=_
     on-some w v = let m = met w in record { is = rw (m .is) (v (m .value) (m .shows) .is) }
 
@@ -131,7 +133,8 @@ module _ {A : Type 0} {r : Reader A} (why : Fault) (ok : A → Bool) {s : List �
     cut w = record { is = rw (stopped w) }
 
 -- a judged item that was read
-pub was-good : {A : Type 0} (r : Reader A) (why : Fault) (ok : A → Bool) {s : List ℕ} {at : ℕ} {x : A} {next : ℕ} → Says (r or why unless ok) itself s at (got s x next) → ok x ≡ true
+pub was-good : {A : Type 0} (r : Reader A) (why : Fault) (ok : A → Bool) {s : List ℕ} {at : ℕ} {x : A} {next : ℕ}
+    → Says (r or why unless ok) itself s at (got s x next) → ok x ≡ true
 unfolding _or_unless_ _andThen_
 was-good r why ok {s} {at} {x} {next} w = by (r at (drop at s)) (exactly w)
   where
@@ -180,14 +183,16 @@ not-judged a {s} {at} h =
 -- ---- a whole body, item by item
 
 module _ {A B C : Type 0} {header : ℕ} {r : Reader A} (k : A → Reader B) {h : B → C} {s : List ℕ} {at : ℕ} where
-  pub judged-on : {answer : Verdict C} {x : A} {next : ℕ} → Says r itself s at (got s x next) → JudgedAt header next (k x) h s answer → JudgedAt header at (r >>= k) h s answer
+  pub judged-on : {answer : Verdict C} {x : A} {next : ℕ} → Says r itself s at (got s x next) → JudgedAt header next (k x) h s answer
+      → JudgedAt header at (r >>= k) h s answer
   unfolding whole _andThen_ _>>=_
   judged-on w j = record { is = rw (exactly w) (j .is) }
 
   pub judged-off : {D : Type 0} {g : A → D} {why : Fault} {p : ℕ} → Says r g s at (fault why p) → JudgedAt header at (r >>= k) h s (fault why p)
   judged-off w = faulty (off k w)
 
-  pub judged-some : {D : Type 0} {g : A → D} {answer : Verdict C} {y : D} {next : ℕ} → Says r g s at (got s y next) → ((x : A) → g x ≡ y → JudgedAt header next (k x) h s answer) → JudgedAt header at (r >>= k) h s answer
+  pub judged-some : {D : Type 0} {g : A → D} {answer : Verdict C} {y : D} {next : ℕ} → Says r g s at (got s y next)
+      → ((x : A) → g x ≡ y → JudgedAt header next (k x) h s answer) → JudgedAt header at (r >>= k) h s answer
   unfolding whole _andThen_ _>>=_
   judged-some w j = let m = met w in record { is = rw (m .is) (j (m .value) (m .shows) .is) }
 
@@ -202,7 +207,8 @@ module _ {A B C : Type 0} {header at : ℕ} {r : Reader A} {h : B → C} {s : Li
   unfolding whole _andThen_ _>>=_
   judged-as k {answer} j = record { is = by (r at (drop at s)) (j .is) }
     where
-      yes : (b : Bool) (a : A) → ((if b then fine a else fault WrongLength header) andThen λ a. fine (h (k a))) ≡ ((if b then fine (k a) else fault WrongLength header) andThen λ b. fine (h b))
+      yes : (b : Bool) (a : A)
+          → ((if b then fine a else fault WrongLength header) andThen λ a. fine (h (k a))) ≡ ((if b then fine (k a) else fault WrongLength header) andThen λ b. fine (h b))
       yes true a = refl
       yes false a = refl
 
@@ -211,5 +217,6 @@ module _ {A B C : Type 0} {header at : ℕ} {r : Reader A} {h : B → C} {s : Li
       by (fine g) e = e ∙ yes (empty (g .left)) (g .value)
       by (fault why p) e = e
 
-pub judged-part : {A B C : Type 0} {header at : ℕ} {r : Reader A} {h : A → B} {s : List ℕ} (g : B → C) {f : A → C} {v : Verdict B} → ((a : A) → g (h a) ≡ f a) → JudgedAt header at r h s v → JudgedAt header at r f s (v andThen λ b. fine (g b))
+pub judged-part : {A B C : Type 0} {header at : ℕ} {r : Reader A} {h : A → B} {s : List ℕ} (g : B → C) {f : A → C} {v : Verdict B} → ((a : A) → g (h a) ≡ f a)
+    → JudgedAt header at r h s v → JudgedAt header at r f s (v andThen λ b. fine (g b))
 judged-part {h} g {f} same j = record { is = rw (j .is) (then-then _ h g ∙ then-same _ (λ a. g (h a)) f same) }

@@ -89,7 +89,8 @@ module _ {A : Type 0} where
   uses-if true w v = w
   uses-if false w v = v
 
-uses-then : {A B : Type 0} {r : Reader A} {f : A → ℕ} {size : B → ℕ} {paid : ℕ} (k : A → Reader B) → Uses r f paid → ((x : A) → Uses (k x) size (f x)) → Uses (r >>= k) size paid
+uses-then : {A B : Type 0} {r : Reader A} {f : A → ℕ} {size : B → ℕ} {paid : ℕ} (k : A → Reader B) → Uses r f paid → ((x : A) → Uses (k x) size (f x))
+    → Uses (r >>= k) size paid
 unfolding _>>=_ _andThen_
 uses-then {r} {f} {size} {paid} k w later = record { each = λ at b. by (length b + paid) (r at b) (w .each at b) }
   where
@@ -103,7 +104,8 @@ uses-item : (n : ℕ) → Uses (item n) (λ x. n) 0
 unfolding item
 uses-item n = record { each = λ at b. by at b (leb n (length b)) refl }
   where
-    by : (at : ℕ) (b : List ℕ) (t : Bool) → leb n (length b) ≡ t → Spent (λ x. n) (length b + 0) (if t then give (take n b) (at + n) (drop n b) else fault ItemCut at)
+    by : (at : ℕ) (b : List ℕ) (t : Bool) → leb n (length b) ≡ t
+        → Spent (λ x. n) (length b + 0) (if t then give (take n b) (at + n) (drop n b) else fault ItemCut at)
     by at b true l = omega (arith, leb-true n (length b) l, length-drop n b)
     by at b false l = tt
 
@@ -123,7 +125,8 @@ uses-string : Uses string (λ n. length n + 1) 0
 unfolding string
 uses-string = record { each = λ at b. by at b (toZero b) (leb (stringSize (toZero b)) (length b)) (all (eqb 0) (take (stringSize (toZero b) - toZero b) (drop (toZero b) b))) refl }
   where
-    by : (at : ℕ) (b : List ℕ) (n : ℕ) (t u : Bool) → leb (stringSize n) (length b) ≡ t → Spent (λ n. length n + 1) (length b + 0) (if t && u then give (take n b) (at + stringSize n) (drop (stringSize n) b) else fault StringOpen at)
+    by : (at : ℕ) (b : List ℕ) (n : ℕ) (t u : Bool) → leb (stringSize n) (length b) ≡ t
+        → Spent (λ n. length n + 1) (length b + 0) (if t && u then give (take n b) (at + stringSize n) (drop (stringSize n) b) else fault StringOpen at)
     by at b n true true l = omega (arith, leb-true (stringSize n) (length b) l, length-take n b, length-drop (stringSize n) b)
     by at b n true false l = tt
     by at b n false true l = tt
@@ -132,7 +135,8 @@ uses-string = record { each = λ at b. by at b (toZero b) (leb (stringSize (toZe
 -- ---- many of them
 
 module _ {A : Type 0} {r : Reader A} {f : A → ℕ} (w : Uses r f 0) where
-  uses-and : {all : Reader (List A)} {size size′ : List A → ℕ} → Uses all size 0 → ((x : A) (xs : List A) → size′ (x ∷ xs) ≤ f x + size xs) → Uses (r followedBy all) size′ 0
+  uses-and : {all : Reader (List A)} {size size′ : List A → ℕ} → Uses all size 0 → ((x : A) (xs : List A) → size′ (x ∷ xs) ≤ f x + size xs)
+      → Uses (r followedBy all) size′ 0
   uses-and v l = uses-then _ w (λ x. uses-then _ (more (f x) v) (λ xs. uses-give _ (omega (arith, l x xs))))
 
   module _ (size : List A → ℕ) (none : size [] ≡ 0) (one : (x : A) (xs : List A) → size (x ∷ xs) ≤ f x + size xs) where
@@ -282,11 +286,13 @@ split-long zero s = omega arith
 split-long (suc n) [] = omega arith
 split-long (suc n) (b ∷ s) = by (chunkOf 4 0 (b ∷ s)) refl (λ left. split-long n left)
   where
-    by : (v : Verdict (Got Chunk)) → chunkOf 4 0 (b ∷ s) ≡ v → ((left : List ℕ) → bytesOf (split n left) ≤ length left) → bytesOf (link (split n) v) ≤ length (b ∷ s)
+    by : (v : Verdict (Got Chunk)) → chunkOf 4 0 (b ∷ s) ≡ v → ((left : List ℕ) → bytesOf (split n left) ≤ length left)
+        → bytesOf (link (split n) v) ≤ length (b ∷ s)
     by (fault why at) e later = omega arith
     by (fine c) e later = omega (arith, later (c .left), framed 0 (b ∷ s) c e .whole)
 
-walk-bound : (kind : Kind) (b : Before) (place : ℕ) (cs : Chunks) (parts : List Part) → walkParts kind b place cs ≡ fine parts → sum (map things parts) ≤ bytesOf cs
+walk-bound : (kind : Kind) (b : Before) (place : ℕ) (cs : Chunks) (parts : List Part) → walkParts kind b place cs ≡ fine parts
+    → sum (map things parts) ≤ bytesOf cs
 unfolding sum bytesOf
 walk-bound kind b place finished parts e = rw (← same-fine (sym (parts-finished kind b place) ∙ e)) (omega arith)
 walk-bound kind b place broken parts e = let bad = sym (parts-broken kind b place) ∙ e in impossible cc
@@ -296,6 +302,7 @@ walk-bound kind b place (chunk t body rest) parts e =
     let later = walk-bound kind (after b (x .part)) _ rest (x .later) (x .onward) in
     rw (← x .both) (omega arith)
 
-pub file-bound : (kind : Kind) (b : Before) (place : ℕ) (s : List ℕ) (parts : List Part) → walkParts kind b place (chunks s) ≡ fine parts → sum (map things parts) ≤ length s
+pub file-bound : (kind : Kind) (b : Before) (place : ℕ) (s : List ℕ) (parts : List Part) → walkParts kind b place (chunks s) ≡ fine parts
+    → sum (map things parts) ≤ length s
 unfolding chunks
 file-bound kind b place s parts e = omega (arith, walk-bound kind b place (split (length s) s) parts e, split-long (length s) s)

@@ -28,7 +28,8 @@ unfolding toZero
 zero-at [] h = absurd (omega arith)
 zero-at (b ∷ t) h = by (eqb b 0) refl (zero-at t) h
   where
-    by : (e : Bool) → eqb b 0 ≡ e → (toZero t < length t → getD t (toZero t) 0 ≡ 0) → (if e then 0 else suc (toZero t)) < suc (length t) → getD (b ∷ t) (if e then 0 else suc (toZero t)) 0 ≡ 0
+    by : (e : Bool) → eqb b 0 ≡ e → (toZero t < length t → getD t (toZero t) 0 ≡ 0) → (if e then 0 else suc (toZero t)) < suc (length t)
+        → getD (b ∷ t) (if e then 0 else suc (toZero t)) 0 ≡ 0
     by true is rest l = eqb-true b 0 is
     by false is rest l = rest (omega arith)
 

@@ -31,7 +31,8 @@ pub tagged-vertices : (type : ℕ) (ts : List (ℕ × ℕ)) (ps : List Polygon) 
 tagged-vertices type ts ps = tagged-keeps (λ p. p .vertices) tag-vertices type ts ps
 
 -- how many vertices each has
-pub tagged-counts : (type : ℕ) (ts : List (ℕ × ℕ)) (ps : List Polygon) → map (λ p. length (p .vertices)) (tagged ps type ts) ≡ map (λ p. length (p .vertices)) ps
+pub tagged-counts : (type : ℕ) (ts : List (ℕ × ℕ)) (ps : List Polygon)
+    → map (λ p. length (p .vertices)) (tagged ps type ts) ≡ map (λ p. length (p .vertices)) ps
 tagged-counts type ts ps = tagged-keeps (λ p. length (p .vertices)) (λ type n p. ap length (tag-vertices type n p)) type ts ps
 
 pub tagged-length : (type : ℕ) (ts : List (ℕ × ℕ)) (ps : List Polygon) → length (tagged ps type ts) ≡ length ps

@@ -48,13 +48,15 @@ pub unframed : (at : ℕ) (b : List ℕ) {why : Fault} {p : ℕ} → chunkOf 4 a
 unfolding chunkOf
 unframed at b {why} {p} e = by (wellFormed 4 b) _ _ e
   where
-    by : (t : Bool) (g g′ : Got Chunk) → (if t then fine g else fault BadHeader at) ≡ fault why p → (if t then fine g′ else fault BadHeader 0) ≡ fault BadHeader 0
+    by : (t : Bool) (g g′ : Got Chunk) → (if t then fine g else fault BadHeader at) ≡ fault why p
+        → (if t then fine g′ else fault BadHeader 0) ≡ fault BadHeader 0
     by false g g′ e = refl
     by true g g′ e = impossible cc
 
 -- ---- the bound of their number
 
-link-same : (f g : List ℕ → Chunks) (b : List ℕ) → ((t : List ℕ) → length t < length b → f t ≡ g t) → (v : Verdict (Got Chunk)) → chunkOf 4 0 b ≡ v → link f v ≡ link g v
+link-same : (f g : List ℕ → Chunks) (b : List ℕ) → ((t : List ℕ) → length t < length b → f t ≡ g t) → (v : Verdict (Got Chunk)) → chunkOf 4 0 b ≡ v
+    → link f v ≡ link g v
 unfolding link
 link-same f g b same (fine c) e = ap (chunk (c .value .tag) (c .value .body)) (same (c .left) (framed 0 b c e .less))
 link-same f g b same (fault why at) e = refl

@@ -48,7 +48,8 @@ unfolding _andThen_
 then-same (fine x) f g e = rw (e x)
 then-same (fault why p) f g e = refl
 
-pub then-then : {A B C : Type 0} (v : Verdict A) (f : A → B) (g : B → C) → ((v andThen λ x. fine (f x)) andThen λ y. fine (g y)) ≡ (v andThen λ x. fine (g (f x)))
+pub then-then : {A B C : Type 0} (v : Verdict A) (f : A → B) (g : B → C)
+    → ((v andThen λ x. fine (f x)) andThen λ y. fine (g y)) ≡ (v andThen λ x. fine (g (f x)))
 unfolding _andThen_
 then-then (fine x) f g = refl
 then-then (fault why p) f g = refl

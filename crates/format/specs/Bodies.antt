@@ -22,8 +22,8 @@ pub record SurfaceChunk : Type 0 where
   pub source : Name
   pub values : List Value
 
--- What a chunk contributes. Vertices count from the first of the latest points. A tagging has the type of its PTAG and pairs of a polygon, counted from the first
--- of the latest POLS, and a number.
+-- What a chunk contributes. Vertices count from the first of the latest points. A tagging has the type of its PTAG, and pairs of a polygon, counted from the
+-- first of the latest POLS, and a number.
 pub data Part : Type 0 where
   pointList : List Point → Part
   nameList : List Name → Part

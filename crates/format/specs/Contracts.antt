@@ -1,5 +1,6 @@
 -- How a contract cites the specification: what a reader says at a place of a slice, what a whole body is judged to be, what a table holds after words were
--- put into it, what polygons are in the tables, and what the parts of a file are. The slice is a chunk's bytes from its tag on, so that an index of it is a place.
+-- put into it, what polygons are in the tables, and what the parts of a file are. The slice is a chunk's bytes from its tag on, so that an index of it is a
+-- place.
 use Prim.Native.Nat.{ℕ, _+_, _*_, _≤_}
 use mathlib.Core.Path.{_≡_}
 use mathlib.Core.List.{List, [], _++_, map}

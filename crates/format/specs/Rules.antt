@@ -213,7 +213,12 @@ unfoldable pub meshOf : Kind → List Part → Mesh
 meshOf kind parts =
     let ns = joined (map namesOf parts) in
     let ss = joined (map surfacesOf parts) in
-    record { points = joined (map pointsOf parts); polygons = polygonsIn 0 0 [] parts; names = ns; surfaces = map (λ n. recordFor kind (standing n none ss)) ns }
+    record {
+      points = joined (map pointsOf parts);
+      polygons = polygonsIn 0 0 [] parts;
+      names = ns;
+      surfaces = map (λ n. recordFor kind (standing n none ss)) ns;
+    }
 
 -- "The rules give a file a mesh exactly when none of the file reader's refusals but 16 applies to it."
 pub data Outcome : Type 0 where

@@ -62,9 +62,11 @@ split-bytes (suc n) (b ∷ s) e = by (chunkOf 4 0 (b ∷ s)) (chunk-bytes (b ∷
 
 data GoodParts (kind : Kind) : Before → List Part → Type 0 where
   no-more : {b : Before} → GoodParts kind b []
-  one-more : {b : Before} {part : Part} {parts : List Part} → goodPart kind b part ≡ true → GoodParts kind (after b part) parts → GoodParts kind b (part ∷ parts)
+  one-more : {b : Before} {part : Part} {parts : List Part} → goodPart kind b part ≡ true → GoodParts kind (after b part) parts
+      → GoodParts kind b (part ∷ parts)
 
-walk-good : (kind : Kind) (b : Before) (place : ℕ) {cs : Chunks} → ByteChunks cs → (parts : List Part) → walkParts kind b place cs ≡ fine parts → GoodParts kind b parts
+walk-good : (kind : Kind) (b : Before) (place : ℕ) {cs : Chunks} → ByteChunks cs → (parts : List Part) → walkParts kind b place cs ≡ fine parts
+    → GoodParts kind b parts
 walk-good kind b place at-end parts e = rw (← same-fine (sym (parts-finished kind b place) ∙ e)) no-more
 walk-good kind b place no-chunk parts e = let bad = sym (parts-broken kind b place) ∙ e in impossible cc
 walk-good kind b place (more {t = t} {body = body} {rest = rest} bytes later) parts e =
@@ -73,7 +75,8 @@ walk-good kind b place (more {t = t} {body = body} {rest = rest} bytes later) pa
 
 -- ---- points and names
 
-points-good : {kind : Kind} {b : Before} {parts : List Part} → GoodParts kind b parts → all (λ p. all finite (pointWords p)) (joined (map pointsOf parts)) ≡ true
+points-good : {kind : Kind} {b : Before} {parts : List Part} → GoodParts kind b parts
+    → all (λ p. all finite (pointWords p)) (joined (map pointsOf parts)) ≡ true
 unfolding joined added all
 points-good no-more = refl
 points-good (one-more {part = pointList ps} g gs) = all-append-true _ ps _ g (points-good gs)
@@ -107,14 +110,16 @@ names-good (one-more {part = skippedChunk} g gs) = names-good gs
 -- ---- polygons
 
 module _ (P N : ℕ) where
-  moved-vertices : (base pointCount : ℕ) (vs : List ℕ) → base + pointCount ≤ P → all (λ v. ltb v pointCount) vs ≡ true → all (λ v. ltb v P) (map (λ v. base + v) vs) ≡ true
+  moved-vertices : (base pointCount : ℕ) (vs : List ℕ) → base + pointCount ≤ P → all (λ v. ltb v pointCount) vs ≡ true
+      → all (λ v. ltb v P) (map (λ v. base + v) vs) ≡ true
   unfolding all
   moved-vertices base pointCount [] l e = refl
   moved-vertices base pointCount (v ∷ vs) l e =
       let below = ltb-true v pointCount (all-first (λ v. ltb v pointCount) v vs e) in
       both (lt-ltb (base + v) P (omega arith)) (moved-vertices base pointCount vs l (all-rest (λ v. ltb v pointCount) v vs e))
 
-  moved : (base pointCount nameCount : ℕ) (p : Polygon) → base + pointCount ≤ P → nameCount ≤ N → goodPolygon pointCount nameCount p ≡ true → goodPolygon P N (from base p) ≡ true
+  moved : (base pointCount nameCount : ℕ) (p : Polygon) → base + pointCount ≤ P → nameCount ≤ N → goodPolygon pointCount nameCount p ≡ true
+      → goodPolygon P N (from base p) ≡ true
   moved base pointCount nameCount p l few e =
       let g = good-polygon pointCount nameCount p e in
       let long : length (map (λ v. base + v) (p .vertices)) ≡ length (p .vertices) = length-map (p .vertices) (λ v. base + v) in
@@ -126,7 +131,8 @@ module _ (P N : ℕ) where
         numbered = g .numbered;
       })
 
-  all-moved : (base pointCount nameCount : ℕ) (ps : List Polygon) → base + pointCount ≤ P → nameCount ≤ N → all (goodPolygon pointCount nameCount) ps ≡ true → all (goodPolygon P N) (map (from base) ps) ≡ true
+  all-moved : (base pointCount nameCount : ℕ) (ps : List Polygon) → base + pointCount ≤ P → nameCount ≤ N → all (goodPolygon pointCount nameCount) ps ≡ true
+      → all (goodPolygon P N) (map (from base) ps) ≡ true
   unfolding all
   all-moved base pointCount nameCount [] l few e = refl
   all-moved base pointCount nameCount (p ∷ ps) l few e =
@@ -141,13 +147,15 @@ module _ (P N : ℕ) where
           is-good {p = polygonOf (p .kind) n (p .vertices)} (record { kinds = g .kinds; count = g .count; vertices = g .vertices; named = few; numbered = small })
       by false = e
 
-  retag-good : (type i n : ℕ) (ps : List Polygon) → n ≤ N → n ≤ surfaceLimit → all (goodPolygon P N) ps ≡ true → all (goodPolygon P N) (retag type i n ps) ≡ true
+  retag-good : (type i n : ℕ) (ps : List Polygon) → n ≤ N → n ≤ surfaceLimit → all (goodPolygon P N) ps ≡ true
+      → all (goodPolygon P N) (retag type i n ps) ≡ true
   unfolding retag all
   retag-good type i n [] few small e = refl
   retag-good type zero n (p ∷ ps) few small e = both (tag-good type n p few small (all-first (goodPolygon P N) p ps e)) (all-rest (goodPolygon P N) p ps e)
   retag-good type (suc i) n (p ∷ ps) few small e = both (all-first (goodPolygon P N) p ps e) (retag-good type i n ps few small (all-rest (goodPolygon P N) p ps e))
 
-  tagged-good : (type nameCount : ℕ) (ts : List (ℕ × ℕ)) (ps : List Polygon) → nameCount ≤ N → all (λ t. between 1 nameCount (t .1) && leb (t .1) surfaceLimit) ts ≡ true → all (goodPolygon P N) ps ≡ true
+  tagged-good : (type nameCount : ℕ) (ts : List (ℕ × ℕ)) (ps : List Polygon) → nameCount ≤ N
+      → all (λ t. between 1 nameCount (t .1) && leb (t .1) surfaceLimit) ts ≡ true → all (goodPolygon P N) ps ≡ true
       → all (goodPolygon P N) (tagged ps type ts) ≡ true
   tagged-good type nameCount [] ps few e g = g
   tagged-good type nameCount (t ∷ ts) ps few e g =
@@ -157,7 +165,8 @@ module _ (P N : ℕ) where
       (retag-good type (t .0) (t .1) ps (omega arith) (leb-true (t .1) surfaceLimit (here .1)) g)
 
   -- The latest points start after `base` others and are all before `end`; what the later parts add comes behind.
-  polygons-good : {kind : Kind} {b : Before} {parts : List Part} → GoodParts kind b parts → (base end : ℕ) (latest : List Polygon) → base + count (b .points) ≤ end
+  polygons-good : {kind : Kind} {b : Before} {parts : List Part} → GoodParts kind b parts → (base end : ℕ) (latest : List Polygon)
+      → base + count (b .points) ≤ end
       → end + length (joined (map pointsOf parts)) ≤ P → count (b .names) + length (joined (map namesOf parts)) ≤ N → all (goodPolygon P N) latest ≡ true
       → all (goodPolygon P N) (polygonsIn base end latest parts) ≡ true
   unfolding polygonsIn joined added after
@@ -255,7 +264,8 @@ record-good LWO2 vs e = lwo2-record vs e
 
 -- ---- the surfaces of a file
 
-surfaces-good : {kind : Kind} {b : Before} {parts : List Part} → GoodParts kind b parts → all (λ s. all (goodValue kind) (s .values)) (joined (map surfacesOf parts)) ≡ true
+surfaces-good : {kind : Kind} {b : Before} {parts : List Part} → GoodParts kind b parts
+    → all (λ s. all (goodValue kind) (s .values)) (joined (map surfacesOf parts)) ≡ true
 unfolding joined added all
 surfaces-good no-more = refl
 surfaces-good (one-more {part = pointList ps} g gs) = surfaces-good gs
@@ -265,7 +275,8 @@ surfaces-good (one-more {part = tagging t ts} g gs) = surfaces-good gs
 surfaces-good (one-more {part = surface s} g gs) = both g (surfaces-good gs)
 surfaces-good (one-more {part = skippedChunk} g gs) = surfaces-good gs
 
-standing-good : (kind : Kind) (n : Name) (now : Option SurfaceChunk) (ss : List SurfaceChunk) → all (λ s. all (goodValue kind) (s .values)) ss ≡ true → goodSurface (recordFor kind now) ≡ true
+standing-good : (kind : Kind) (n : Name) (now : Option SurfaceChunk) (ss : List SurfaceChunk) → all (λ s. all (goodValue kind) (s .values)) ss ≡ true
+    → goodSurface (recordFor kind now) ≡ true
     → goodSurface (recordFor kind (standing n now ss)) ≡ true
 unfolding standing
 standing-good kind n now [] e g = g

@@ -21,7 +21,7 @@ use Rattle.format.specs.Bodies.{Part, SurfaceChunk, pointList, nameList, polygo
 use Rattle.format.specs.Canonical.{bytes, vxBytes, stringBytes, chunkBytes, pointBytes, polygonBytes, typeOf, pairsOf, pairBytes, levelBytes, surfaceBytes}
 use Rattle.format.specs.Written.{goodPolygon, noZero, goodNames}
 use Rattle.format.proofs.Facts.{every-at, all-first, all-rest, all-part, between-true, length-each}
-use Rattle.laws.proofs.Reading.{Reads, Ends, ends, reads-give, reads-then, ends-then, reads-as, ends-as, reads-unless, Row, none, more, reads-times, ends-many, rows, rows-same}
+use Rattle.laws.proofs.Reading.{ReadsAs, Ends, ends, reads-give, reads-then, ends-then, reads-as, ends-as, reads-unless, Row, none, more, reads-times, ends-many, rows, rows-same}
 use Rattle.format.proofs.CanonicalLengths.{length-bytes, length-string, length-point, length-vx}
 use Rattle.laws.proofs.Items.{reads-item, reads-uint, floats, reads-floats, reads-vx, reads-string}
 use Rattle.laws.proofs.GoodPolygons.{GoodPolygon, good-polygon}
@@ -33,7 +33,7 @@ use Rattle.laws.proofs.Chunks.{isTag, more-sub, ends-of-length}
 abbrev pub goodPoint : Point → Bool
 goodPoint p = all finite (pointWords p)
 
-reads-point : (p : Point) → goodPoint p ≡ true → Reads point (pointBytes p) p
+reads-point : (p : Point) → goodPoint p ≡ true → ReadsAs point (pointBytes p) p
 unfolding point floats
 reads-point p ok = rw append-nil at (reads-floats (λ ws. give (pointFrom ws)) (pointWords p) ok reads-give)
 
@@ -57,14 +57,15 @@ good-name earlier n ns ok =
     let first = and-eq-true-iff (newName earlier n) (noZero n) .0 (both .0) in
     record { new = first .0; no-zero = first .1; rest = both .1 }
 
-reads-name : (earlier : List Name) (n : Name) (ns : List Name) → GoodName earlier n ns → Reads (name earlier) (stringBytes n) n
+reads-name : (earlier : List Name) (n : Name) (ns : List Name) → GoodName earlier n ns → ReadsAs (name earlier) (stringBytes n) n
 unfolding name
 reads-name earlier n ns g = record { here = reads-unless BadName (newName earlier) (reads-string n (g .no-zero)) (g .new) .here }
 
 pub string-longer : (n : Name) → length n < length (stringBytes n)
 string-longer n = omega (arith, length-string n)
 
-names-step : {w v : List ℕ} {n : Name} {ns : List Name} (k : ℕ) (earlier : List Name) → Reads (name earlier) w n → 0 < length w → Ends (namesAfter k (earlier ++ (n ∷ []))) v ns
+names-step : {w v : List ℕ} {n : Name} {ns : List Name} (k : ℕ) (earlier : List Name) → ReadsAs (name earlier) w n → 0 < length w
+    → Ends (namesAfter k (earlier ++ (n ∷ []))) v ns
     → Ends (namesAfter (suc k) earlier) (w ++ v) (n ∷ ns)
 unfolding namesAfter
 names-step {w = []} k earlier h long e = absurd (omega arith)
@@ -91,11 +92,11 @@ ends-names ns ok = record { here = ends-as nameList (ends-names-after (length (j
 abbrev pub bare : ℕ → Polygon → Polygon
 bare k p = polygonOf k 0 (p .vertices)
 
-reads-vertex : (pointCount : ℕ) → pointCount ≤ 2 ^ 24 → (v : ℕ) → ltb v pointCount ≡ true → Reads (vertex vx pointCount) (vxBytes v) v
+reads-vertex : (pointCount : ℕ) → pointCount ≤ 2 ^ 24 → (v : ℕ) → ltb v pointCount ≡ true → ReadsAs (vertex vx pointCount) (vxBytes v) v
 reads-vertex pointCount few v small = reads-unless VertexNumber (λ v. ltb v pointCount) (reads-vx v (omega (arith, ltb-true v pointCount small))) small
 
 reads-polygon : (pointCount nameCount k : ℕ) → pointCount ≤ 2 ^ 24 → (p : Polygon) → goodPolygon pointCount nameCount p ≡ true
-    → Reads (polygon pointCount k) (polygonBytes p) (bare k p)
+    → ReadsAs (polygon pointCount k) (polygonBytes p) (bare k p)
 unfolding polygon lwo2Vertices polygonBytes
 reads-polygon pointCount nameCount k few p ok =
     let g = good-polygon pointCount nameCount p ok in
@@ -111,7 +112,7 @@ length-polygon p = omega (arith, length-append (bytes 2 (length (p .vertices))) 
 
 -- ---- a run's POLS
 
-reads-tag : (t : String) → length (spelt t) ≡ 4 → Reads u4 (spelt t) (number (spelt t))
+reads-tag : (t : String) → length (spelt t) ≡ 4 → ReadsAs u4 (spelt t) (number (spelt t))
 unfolding uint
 reads-tag t four = record { here = reads-as number (reads-item 4 (spelt t) four) .here }
 
@@ -129,7 +130,8 @@ typed k kinds = go (eqb k FACE) refl
     go true e = rw (eqb-true k FACE e) (record { four = refl; known = refl; kind = refl })
     go false e = let patch : k ≡ PATCH = omega (arith, eqb-false k FACE e, kinds) in rw patch (record { four = refl; known = refl; kind = refl })
 
-pub ends-run : (pointCount nameCount k : ℕ) → pointCount ≤ 2 ^ 24 → (FACE ≤ k) × (k ≤ PATCH) → (ps : List Polygon) → all (goodPolygon pointCount nameCount) ps ≡ true
+pub ends-run : (pointCount nameCount k : ℕ) → pointCount ≤ 2 ^ 24 → (FACE ≤ k) × (k ≤ PATCH) → (ps : List Polygon)
+    → all (goodPolygon pointCount nameCount) ps ≡ true
     → Ends (polygonsBody pointCount) (spelt (typeOf k) ++ joined (map polygonBytes ps)) (polygonList (map (bare k) ps) 0)
 unfolding polygonsBody
 ends-run pointCount nameCount k few kinds ps ok =
@@ -140,14 +142,14 @@ ends-run pointCount nameCount k few kinds ps ok =
 -- ---- a run's PTAG
 
 reads-pair : (polygonCount nameCount i n : ℕ) → polygonCount ≤ 2 ^ 24 → i < polygonCount → n ≤ nameCount → n ≤ surfaceLimit → (n ≡ 0 → ⊥)
-    → Reads (pair polygonCount nameCount) (pairBytes (i, n)) (i, n)
+    → ReadsAs (pair polygonCount nameCount) (pairBytes (i, n)) (i, n)
 unfolding pair pairBytes
 reads-pair polygonCount nameCount i n few below named numbered some =
     let t : ℕ = n - 1 in
     let back : suc t ≡ n = omega arith in
     let which = reads-unless PolygonNumber (λ p. ltb p polygonCount) (reads-vx i (omega arith)) (lt-ltb i polygonCount below) in
     let tag = reads-unless SurfaceNumber (λ t. ltb t nameCount) (reads-uint 2 t (omega arith)) (lt-ltb t nameCount (omega arith)) in
-    let read : Reads (pair polygonCount nameCount) (vxBytes i ++ bytes 2 t) (i, suc t) = reads-then _ which (reads-as _ tag) in
+    let read : ReadsAs (pair polygonCount nameCount) (vxBytes i ++ bytes 2 t) (i, suc t) = reads-then _ which (reads-as _ tag) in
     rw back at read
 
 length-pair : (t : ℕ × ℕ) → 0 < length (pairBytes t)
@@ -175,7 +177,8 @@ abbrev pub surfaceTags : List (ℕ × ℕ) → Part
 surfaceTags ts = tagging (number (spelt "SURF")) ts
 
 pub ends-pairs : (pointCount polygonCount nameCount : ℕ) → polygonCount ≤ 2 ^ 24 → (ps : List Polygon) → length ps ≤ polygonCount
-    → all (goodPolygon pointCount nameCount) ps ≡ true → Ends (taggingBody polygonCount nameCount) (spelt "SURF" ++ joined (map pairBytes (pairsOf 0 ps))) (surfaceTags (pairsOf 0 ps))
+    → all (goodPolygon pointCount nameCount) ps ≡ true
+    → Ends (taggingBody polygonCount nameCount) (spelt "SURF" ++ joined (map pairBytes (pairsOf 0 ps))) (surfaceTags (pairsOf 0 ps))
 unfolding taggingBody number
 ends-pairs pointCount polygonCount nameCount few ps fits ok =
     ends-then _ (reads-tag "SURF" refl) (ends-as surfaceTags (ends-many (row-pairs pointCount polygonCount nameCount 0 few ps (omega arith) ok)))
@@ -216,7 +219,8 @@ side-small n ok = go (eqb n 1) refl ok
     go true e ok = omega (arith, eqb-true n 1 e)
     go false e ok = omega (arith, eqb-true n 3 ok)
 
-ends-sides : (t n : ℕ) → sideNumber n ≡ true → Ends (fixed 2 (u2 or SurfaceValue unless sideNumber >>= λ n. give (value t (n ∷ [])))) (bytes 2 n) (value t (n ∷ []))
+ends-sides : (t n : ℕ) → sideNumber n ≡ true
+    → Ends (fixed 2 (u2 or SurfaceValue unless sideNumber >>= λ n. give (value t (n ∷ [])))) (bytes 2 n) (value t (n ∷ []))
 ends-sides t n ok =
     ends-of-length 2 (eqb 2) (eq-eqb 2 (length (bytes 2 n)) (sym (length-bytes 2 n)))
     (ends (reads-as (λ n. value t (n ∷ [])) (reads-unless SurfaceValue sideNumber (reads-uint 2 n (side-small n ok)) ok)))
@@ -251,7 +255,7 @@ pub ends-surface : (n : Name) (s : Surface) → noZero n ≡ true → all finite
     → Ends (surfaceBody LWO2) (surfaceBytes n s) (surface (written n s))
 unfolding surfaceBody surfaceStrings nested surfaceBytes joined all
 ends-surface n s no-zero known sides =
-    let called : Reads (surfaceStrings LWO2) (stringBytes n ++ stringBytes []) (n, []) = reads-then _ (reads-string n no-zero) (reads-as (λ source. (n, source)) (reads-string [] refl)) in
+    let called : ReadsAs (surfaceStrings LWO2) (stringBytes n ++ stringBytes []) (n, []) = reads-then _ (reads-string n no-zero) (reads-as (λ source. (n, source)) (reads-string [] refl)) in
     rw (← append-assoc (stringBytes n) (stringBytes [])) (ends-then _ called (ends-as (λ vs. surface (record { name = n; source = []; values = vs })) (ends-as joined (ends-many (row-values s known sides)))))
 
 -- the record that those values make

@@ -17,7 +17,7 @@ use Rattle.format.specs.Chunks.{Chunk, sizeOf, lengthOf, wellFormed, chunkOf, s
 use Rattle.format.specs.Canonical.{bytes, chunkBytes}
 use Rattle.format.proofs.Facts.{every-at}
 use Rattle.format.proofs.Verdicts.{chosen}
-use Rattle.laws.proofs.Reading.{got, Reads, Ends, wholly, Row, more}
+use Rattle.laws.proofs.Reading.{got, ReadsAs, Ends, wholly, Row, more}
 use Rattle.format.proofs.CanonicalLengths.{length-bytes}
 use Rattle.laws.proofs.Items.{number-bytes, zeros}
 
@@ -51,7 +51,8 @@ chunk-alone width w size at rest =
     (rw (drop-append-le (4 + width + n) w rest padded, take-append-le (n % 2) (drop (4 + width + n) w) rest pad, drop-at w rest (4 + width + n + n % 2) size, ← size)
     (rw (le-leb (4 + width) (length w) head, le-leb (4 + width) (length (w ++ rest)) (omega arith), le-leb (length w) (length w) (omega arith), le-leb (length w) (length (w ++ rest)) long)))
 
-pub reads-whole : (width : ℕ) (w : List ℕ) → wellFormed width w ≡ true → length w ≡ sizeOf width (lengthOf width w) → Reads (chunkOf width) w (chunkIn width w)
+pub reads-whole : (width : ℕ) (w : List ℕ) → wellFormed width w ≡ true → length w ≡ sizeOf width (lengthOf width w)
+    → ReadsAs (chunkOf width) w (chunkIn width w)
 reads-whole width w ok size = record { here = λ at rest. rw (chunk-alone width w size at rest, ok) }
 
 -- where a chunk is read, it stands at the front as one whole chunk
@@ -59,7 +60,7 @@ pub record Front (width : ℕ) (s : List ℕ) (c : Got Chunk) : Type 0 where
   pub bytes-of : List ℕ
   pub parts : s ≡ bytes-of ++ c .left
   pub some : 0 < length bytes-of
-  pub reads : Reads (chunkOf width) bytes-of (c .value)
+  pub reads : ReadsAs (chunkOf width) bytes-of (c .value)
 
 pub front : (width at : ℕ) (s : List ℕ) (c : Got Chunk) → chunkOf width at s ≡ fine c → Front width s c
 unfolding chunkOf wellFormed sizeOf
@@ -98,7 +99,7 @@ unfolding sizeOf
 shorter width t body good = omega (arith, length-chunk width t body good)
 
 pub reads-chunk : (width : ℕ) (t : String) (body : List ℕ) → isTag t ≡ true → length body < 256 ^ width
-    → Reads (chunkOf width) (chunkBytes width t body) (record { tag = number (spelt t); body = body })
+    → ReadsAs (chunkOf width) (chunkBytes width t body) (record { tag = number (spelt t); body = body })
 unfolding chunkBytes wellFormed lengthOf sizeOf every
 reads-chunk width t body good small =
     let n : ℕ = length body in
@@ -123,13 +124,15 @@ reads-chunk width t body good small =
 -- ---- sub-chunks
 
 -- one more sub-chunk in a row of them
-pub more-sub : {A : Type 0} (inside : (tag : ℕ) → Reader A) (t : String) (body : List ℕ) {a : A} {ws : List (List ℕ)} {xs : List A} → isTag t ≡ true → length body < 65536
+pub more-sub : {A : Type 0} (inside : (tag : ℕ) → Reader A) (t : String) (body : List ℕ) {a : A} {ws : List (List ℕ)} {xs : List A} → isTag t ≡ true
+    → length body < 65536
     → Ends (inside (number (spelt t))) body a → Row (sub inside) ws xs → Row (sub inside) (chunkBytes 2 t body ∷ ws) (a ∷ xs)
 unfolding sub _andThen_
 more-sub inside t body {a} good small h row =
-    let read : Reads (sub inside) (chunkBytes 2 t body) a = record { here = λ at rest. rw (reads-chunk 2 t body good small .here at rest, wholly at (at + 6) h) } in
+    let read : ReadsAs (sub inside) (chunkBytes 2 t body) a = record { here = λ at rest. rw (reads-chunk 2 t body good small .here at rest, wholly at (at + 6) h) } in
     more read (omega (arith, shorter 2 t body good)) row
 
-pub ends-of-length : {A : Type 0} {r : Reader A} {w : List ℕ} {x : A} (width : ℕ) (ok : ℕ → Bool) → ok (length w) ≡ true → Ends r w x → Ends (ofLength width ok r) w x
+pub ends-of-length : {A : Type 0} {r : Reader A} {w : List ℕ} {x : A} (width : ℕ) (ok : ℕ → Bool) → ok (length w) ≡ true → Ends r w x
+    → Ends (ofLength width ok r) w x
 unfolding ofLength
 ends-of-length width ok long h = record { here = λ at. rw long (h .here at) }

@@ -57,7 +57,8 @@ told kind (fine parts) = gives (meshOf kind parts) (sum (map skippedOf parts)) (
 told kind (fault why at) = refused (numberOf why) at
 
 -- the places of the parts are not looked at
-told-parts : (kind : Kind) (b : Before) (place : ℕ) (cs : Chunks) → outcome (walk kind b place cs andThen λ ps. fine (kind, ps)) ≡ told kind (walkParts kind b place cs)
+told-parts : (kind : Kind) (b : Before) (place : ℕ) (cs : Chunks)
+    → outcome (walk kind b place cs andThen λ ps. fine (kind, ps)) ≡ told kind (walkParts kind b place cs)
 unfolding walkParts outcome told _andThen_
 told-parts kind b place cs = by (walk kind b place cs)
   where

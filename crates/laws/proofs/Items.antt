@@ -14,11 +14,11 @@ use Rattle.format.specs.Canonical.{bytes, vxBytes, stringBytes}
 use Rattle.format.specs.Written.{noZero}
 use Rattle.format.proofs.Facts.{all-first, all-rest, finite-bits}
 use Rattle.format.proofs.CanonicalLengths.{length-bytes}
-use Rattle.laws.proofs.Reading.{Reads, reads-then, reads-as, reads-unless}
+use Rattle.laws.proofs.Reading.{ReadsAs, reads-then, reads-as, reads-unless}
 
 -- ---- numbers
 
-pub reads-item : (n : ℕ) (w : List ℕ) → length w ≡ n → Reads (item n) w w
+pub reads-item : (n : ℕ) (w : List ℕ) → length w ≡ n → ReadsAs (item n) w w
 unfolding item
 reads-item n w long = record {
   here = λ at rest.
@@ -32,13 +32,13 @@ number-bytes zero n small = omega arith
 number-bytes (suc k) n small =
     foldl-append (λ n b. n * 256 + b) 0 (bytes k (n / 256)) (n % 256 ∷ []) ∙ omega (arith, number-bytes k (n / 256) (omega arith))
 
-pub reads-uint : (k n : ℕ) → n < 256 ^ k → Reads (uint k) (bytes k n) n
+pub reads-uint : (k n : ℕ) → n < 256 ^ k → ReadsAs (uint k) (bytes k n) n
 unfolding uint
 reads-uint k n small = record { here = rw (number-bytes k n small) at (reads-as number (reads-item k (bytes k n) (length-bytes k n)) .here) }
 
 -- ---- floats
 
-reads-float : (n : ℕ) → finite n ≡ true → Reads float (bytes 4 n) n
+reads-float : (n : ℕ) → finite n ≡ true → ReadsAs float (bytes 4 n) n
 unfolding float
 reads-float n known = record { here = reads-unless _ finite (reads-uint 4 n (finite-bits n known .0)) known .here }
 
@@ -47,8 +47,8 @@ unfoldable pub floats : {A : Type 0} → ℕ → (List ℕ → Reader A) → Rea
 floats zero f = f []
 floats (suc n) f = float >>= λ x. floats n (λ xs. f (x ∷ xs))
 
-pub reads-floats : {A : Type 0} (f : List ℕ → Reader A) {v : List ℕ} {y : A} (xs : List ℕ) → all finite xs ≡ true → Reads (f xs) v y
-    → Reads (floats (length xs) f) (joined (map (bytes 4) xs) ++ v) y
+pub reads-floats : {A : Type 0} (f : List ℕ → Reader A) {v : List ℕ} {y : A} (xs : List ℕ) → all finite xs ≡ true → ReadsAs (f xs) v y
+    → ReadsAs (floats (length xs) f) (joined (map (bytes 4) xs) ++ v) y
 unfolding floats joined
 reads-floats f [] known h = h
 reads-floats f (x ∷ xs) known h =
@@ -58,11 +58,11 @@ reads-floats f (x ∷ xs) known h =
 
 -- ---- VX
 
-pub reads-vx : (n : ℕ) → n < 2 ^ 24 → Reads vx (vxBytes n) n
+pub reads-vx : (n : ℕ) → n < 2 ^ 24 → ReadsAs vx (vxBytes n) n
 unfolding vx vxBytes bytes _>>=_ _andThen_
 reads-vx n small = go (ltb n 65280) refl
   where
-    go : (b : Bool) → ltb n 65280 ≡ b → Reads vx (if b then bytes 2 n else bytes 4 (0xFF00_0000 + n)) n
+    go : (b : Bool) → ltb n 65280 ≡ b → ReadsAs vx (if b then bytes 2 n else bytes 4 (0xFF00_0000 + n)) n
     go true e = record {
       here = λ at rest.
           let below : n < 65280 = ltb-true _ _ e in
@@ -88,7 +88,7 @@ unfolding toZero
 to-zero [] rest ok = refl
 to-zero (b ∷ n) rest ok = rw (not-true (eqb b 0) (all-first _ b n ok)) (ap suc (to-zero n rest (all-rest _ b n ok)))
 
-pub reads-string : (n : List ℕ) → noZero n ≡ true → Reads string (stringBytes n) n
+pub reads-string : (n : List ℕ) → noZero n ≡ true → ReadsAs string (stringBytes n) n
 unfolding string stringBytes
 reads-string n ok = record {
   here = λ at rest.

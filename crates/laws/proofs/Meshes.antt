@@ -50,17 +50,20 @@ adds-more {ps} {pts} {ns} {ss} p skips details a = record {
 }
 
 -- the same with the lists that it adds written out
-adds-names : {ps : List Part} {pts : List Point} {ns : List Name} {ss : List SurfaceChunk} (new : List Name) → Adds ps pts ns ss → Adds (unless nameList new ++ ps) pts (new ++ ns) ss
+adds-names : {ps : List Part} {pts : List Point} {ns : List Name} {ss : List SurfaceChunk} (new : List Name) → Adds ps pts ns ss
+    → Adds (unless nameList new ++ ps) pts (new ++ ns) ss
 unfolding added
 adds-names [] a = a
 adds-names (n ∷ new) a = adds-more (nameList (n ∷ new)) refl refl a
 
-adds-points : {ps : List Part} {pts : List Point} {ns : List Name} {ss : List SurfaceChunk} (new : List Point) → Adds ps pts ns ss → Adds (unless pointList new ++ ps) (new ++ pts) ns ss
+adds-points : {ps : List Part} {pts : List Point} {ns : List Name} {ss : List SurfaceChunk} (new : List Point) → Adds ps pts ns ss
+    → Adds (unless pointList new ++ ps) (new ++ pts) ns ss
 unfolding added
 adds-points [] a = a
 adds-points (p ∷ new) a = adds-more (pointList (p ∷ new)) refl refl a
 
-adds-run : {ps : List Part} {pts : List Point} {ns : List Name} {ss : List SurfaceChunk} (r : List Polygon) → Adds ps pts ns ss → Adds (runParts r ++ ps) pts ns ss
+adds-run : {ps : List Part} {pts : List Point} {ns : List Name} {ss : List SurfaceChunk} (r : List Polygon) → Adds ps pts ns ss
+    → Adds (runParts r ++ ps) pts ns ss
 unfolding runParts added
 adds-run [] a = a
 adds-run {ps} {pts} {ns} {ss} (p ∷ r) a = adds-more (polygonList (map (bare (p .kind)) (p ∷ r)) 0) refl refl (go (pairsOf 0 (p ∷ r)))
@@ -69,7 +72,8 @@ adds-run {ps} {pts} {ns} {ss} (p ∷ r) a = adds-more (polygonList (map (bare (p
     go [] = a
     go (t ∷ ts) = adds-more (surfaceTags (t ∷ ts)) refl refl a
 
-adds-runs : {ps : List Part} {pts : List Point} {ns : List Name} {ss : List SurfaceChunk} (rs : List (List Polygon)) → Adds ps pts ns ss → Adds (joined (map runParts rs) ++ ps) pts ns ss
+adds-runs : {ps : List Part} {pts : List Point} {ns : List Name} {ss : List SurfaceChunk} (rs : List (List Polygon)) → Adds ps pts ns ss
+    → Adds (joined (map runParts rs) ++ ps) pts ns ss
 unfolding joined
 adds-runs [] a = a
 adds-runs {ps} (r ∷ rs) a = rw (append-assoc (runParts r) (joined (map runParts rs)) ps) (adds-run r (adds-runs rs a))
@@ -114,7 +118,8 @@ unfolding amongst
 amongst-append x [] zs = refl
 amongst-append x (y ∷ ys) zs = go (same x y) (amongst-append x ys zs)
   where
-    go : (b : Bool) → amongst x (ys ++ zs) ≡ (amongst x ys || amongst x zs) → (if b then true else amongst x (ys ++ zs)) ≡ ((if b then true else amongst x ys) || amongst x zs)
+    go : (b : Bool) → amongst x (ys ++ zs) ≡ (amongst x ys || amongst x zs)
+        → (if b then true else amongst x (ys ++ zs)) ≡ ((if b then true else amongst x ys) || amongst x zs)
     go true later = refl
     go false later = later
 

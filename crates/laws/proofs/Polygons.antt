@@ -68,7 +68,8 @@ abbrev surfaced : List Polygon → List (ℕ × ℕ) → List Polygon
 surfaced ps ts = tagged ps (number (spelt "SURF")) ts
 
 -- the polygons before are done
-tagged-after : (k : ℕ) (before ps : List Polygon) → all (λ q. eqb (q .kind) k) ps ≡ true → surfaced (before ++ map (bare k) ps) (pairsOf (length before) ps) ≡ before ++ ps
+tagged-after : (k : ℕ) (before ps : List Polygon) → all (λ q. eqb (q .kind) k) ps ≡ true
+    → surfaced (before ++ map (bare k) ps) (pairsOf (length before) ps) ≡ before ++ ps
 unfolding pairsOf
 tagged-after k before [] ok = refl
 tagged-after k before (p ∷ ps) ok = go (eqb (p .surface) 0) refl (tagged-after k (before ++ p ∷ []) ps (all-rest _ p ps ok))
@@ -150,7 +151,8 @@ polygons-back m = past-names (m .names) ∙ past-points (m .points)
         runs-parts end [] (runs (m .polygons)) (surfaceParts (m .names) (m .surfaces)) (λ latest. surface-parts 0 end latest (m .names) (m .surfaces)) (kind-runs (m .polygons))
         ∙ joined-runs (m .polygons)
 
-    past-names : (ns : List Name) → polygonsIn 0 0 [] (unless nameList ns ++ (unless pointList (m .points) ++ rest)) ≡ polygonsIn 0 0 [] (unless pointList (m .points) ++ rest)
+    past-names : (ns : List Name)
+        → polygonsIn 0 0 [] (unless nameList ns ++ (unless pointList (m .points) ++ rest)) ≡ polygonsIn 0 0 [] (unless pointList (m .points) ++ rest)
     past-names [] = refl
     past-names (n ∷ ns) = unfold polygonsIn in refl
 

@@ -70,11 +70,13 @@ module _ {B : Type 0} {most : ℕ} {A : Type 0} where
       by (fine g) o = (λ h. so (g .value) h (o .0 h), o .1)
       by (fault why p) o = o
 
-  obeys-if : (t : Bool) {r q : Reader A} {good : A → Bool} → (t ≡ true → Obeys B most good r) → (t ≡ false → Obeys B most good q) → Obeys B most good (if t then r else q)
+  obeys-if : (t : Bool) {r q : Reader A} {good : A → Bool} → (t ≡ true → Obeys B most good r) → (t ≡ false → Obeys B most good q)
+      → Obeys B most good (if t then r else q)
   obeys-if true w v = w refl
   obeys-if false w v = v refl
 
-  obeys-then : {C : Type 0} {r : Reader C} {has : C → Bool} {good : A → Bool} (k : C → Reader A) → Obeys B most has r → ((x : C) → (B → has x ≡ true) → Obeys B most good (k x))
+  obeys-then : {C : Type 0} {r : Reader C} {has : C → Bool} {good : A → Bool} (k : C → Reader A) → Obeys B most has r
+      → ((x : C) → (B → has x ≡ true) → Obeys B most good (k x))
       → Obeys B most good (r >>= k)
   unfolding _>>=_ _andThen_
   obeys-then {C} {r} {has} {good} k w later = record { each = λ at b i. by (r at b) (w .each at b i) }
@@ -83,15 +85,18 @@ module _ {B : Type 0} {most : ℕ} {A : Type 0} where
       by (fine y) o = later (y .value) (o .0) .each (y .next) (y .left) (o .1)
       by (fault why p) o = o
 
-  obeys-unless : {r : Reader A} {has : A → Bool} (why : Fault) (ok : A → Bool) → ofChunk why ≡ true → Obeys B most has r → Obeys B most (λ x. has x && ok x) (r or why unless ok)
+  obeys-unless : {r : Reader A} {has : A → Bool} (why : Fault) (ok : A → Bool) → ofChunk why ≡ true → Obeys B most has r
+      → Obeys B most (λ x. has x && ok x) (r or why unless ok)
   unfolding _or_unless_ _andThen_
   obeys-unless {r} {has} why ok chunk w = record { each = λ at b i. by at (omega (arith, i .within)) (r at b) (w .each at b i) }
     where
-      judged : (at : ℕ) → at ≤ most → (y : Got A) → Obeyed B most has (fine y) → (t : Bool) → ok (y .value) ≡ t → Obeyed B most (λ x. has x && ok x) (if t then fine y else fault why at)
+      judged : (at : ℕ) → at ≤ most → (y : Got A) → Obeyed B most has (fine y) → (t : Bool) → ok (y .value) ≡ t
+          → Obeyed B most (λ x. has x && ok x) (if t then fine y else fault why at)
       judged at l y o true e = (λ h. both (o .0 h) e, o .1)
       judged at l y o false e = record { of-chunk = chunk; within = l }
 
-      by : (at : ℕ) → at ≤ most → (v : Verdict (Got A)) → Obeyed B most has v → Obeyed B most (λ x. has x && ok x) (v andThen λ y. if ok (y .value) then fine y else fault why at)
+      by : (at : ℕ) → at ≤ most → (v : Verdict (Got A)) → Obeyed B most has v
+          → Obeyed B most (λ x. has x && ok x) (v andThen λ y. if ok (y .value) then fine y else fault why at)
       by at l (fine y) o = judged at l y o (ok (y .value)) refl
       by at l (fault f p) o = o
 
@@ -131,19 +136,21 @@ module _ {B : Type 0} {most : ℕ} {A : Type 0} {r : Reader A} {good : A → Boo
   obeys-many = record { each = λ at b i. obeys-upTo (length b) at b i }
 
 -- a whole body: it is good, or its fault or its header is within
-abbrev Judged : {A : Type 0} → (B : Type 0) (most : ℕ) → (A → Bool) → Verdict A → Type 0
-Judged B most good (fine x) = B → good x ≡ true
-Judged B most good (fault why p) = Faulty most why p
+abbrev JudgedGood : {A : Type 0} → (B : Type 0) (most : ℕ) → (A → Bool) → Verdict A → Type 0
+JudgedGood B most good (fine x) = B → good x ≡ true
+JudgedGood B most good (fault why p) = Faulty most why p
 
-obeys-whole : {A B : Type 0} {most header : ℕ} {r : Reader A} {good : A → Bool} → Obeys B most good r → header ≤ most → (at : ℕ) (b : List ℕ) → Inside B most at b → Judged B most good (whole header r at b)
+obeys-whole : {A B : Type 0} {most header : ℕ} {r : Reader A} {good : A → Bool} → Obeys B most good r → header ≤ most → (at : ℕ) (b : List ℕ)
+    → Inside B most at b → JudgedGood B most good (whole header r at b)
 unfolding whole _andThen_ numberOf
 obeys-whole {A} {B} {most} {header} {r} {good} w l at b i = by (r at b) (w .each at b i)
   where
-    used : (x : A) (t : Bool) → (B → good x ≡ true) → Judged B most good (if t then fine x else fault WrongLength header)
+    used : (x : A) (t : Bool) → (B → good x ≡ true) → JudgedGood B most good (if t then fine x else fault WrongLength header)
     used x true g = g
     used x false g = record { of-chunk = refl; within = l }
 
-    by : (v : Verdict (Got A)) → Obeyed B most good v → Judged B most good (v andThen λ g. if empty (g .left) then fine (g .value) else fault WrongLength header)
+    by : (v : Verdict (Got A)) → Obeyed B most good v
+        → JudgedGood B most good (v andThen λ g. if empty (g .left) then fine (g .value) else fault WrongLength header)
     by (fine g) o = used (g .value) (empty (g .left)) (o .0)
     by (fault why p) o = o
 
@@ -233,7 +240,8 @@ module _ {B : Type 0} {most : ℕ} where
   unfolding sub chunkOf wellFormed sizeOf _andThen_ numberOf
   obeys-sub {A} {good} inside w = record { each = λ at b i. by at b i (wellFormed 2 b) refl }
     where
-      after : (v : Verdict A) (next : ℕ) (left : List ℕ) → Judged B most good v → Inside B most next left → Obeyed B most good (v andThen λ a. give a next left)
+      after : (v : Verdict A) (next : ℕ) (left : List ℕ) → JudgedGood B most good v → Inside B most next left
+          → Obeyed B most good (v andThen λ a. give a next left)
       after (fine x) next left g i = (g, i)
       after (fault why p) next left g i = g
 
@@ -376,13 +384,15 @@ module _ {B : Type 0} {most : ℕ} where
 abbrev goodVertices : (limit pointCount : ℕ) → List ℕ → Bool
 goodVertices limit pointCount vs = between 1 limit (length vs) && all (λ v. ltb v pointCount) vs
 
-counted : (limit pointCount n : ℕ) (vs : List ℕ) → between 1 limit n ≡ true → eqb (length vs) n && all (λ v. ltb v pointCount) vs ≡ true → goodVertices limit pointCount vs ≡ true
+counted : (limit pointCount n : ℕ) (vs : List ℕ) → between 1 limit n ≡ true → eqb (length vs) n && all (λ v. ltb v pointCount) vs ≡ true
+    → goodVertices limit pointCount vs ≡ true
 counted limit pointCount n vs range e =
     let so = and-eq-true-iff (eqb (length vs) n) (all (λ v. ltb v pointCount) vs) .0 e in
     both (ap (between 1 limit) (eqb-true (length vs) n (so .0)) ∙ range) (so .1)
 
 -- with vertices that one may have, a kind and a surface number
-polygon-good : (limit pointCount nameCount : ℕ) (p : Polygon) → limit ≤ lwo2VertexLimit → goodVertices limit pointCount (p .vertices) ≡ true → between FACE PATCH (p .kind) ≡ true → p .surface ≤ nameCount → p .surface ≤ surfaceLimit
+polygon-good : (limit pointCount nameCount : ℕ) (p : Polygon) → limit ≤ lwo2VertexLimit → goodVertices limit pointCount (p .vertices) ≡ true
+    → between FACE PATCH (p .kind) ≡ true → p .surface ≤ nameCount → p .surface ≤ surfaceLimit
     → goodPolygon pointCount nameCount p ≡ true
 polygon-good limit pointCount nameCount p l vs kind few small =
     let so = and-eq-true-iff (between 1 limit (length (p .vertices))) (all (λ v. ltb v pointCount) (p .vertices)) .0 vs in
@@ -395,7 +405,8 @@ all-map p f [] e = refl
 all-map p f (x ∷ xs) e = let so = and-eq-true-iff (p (f x)) (all (λ x. p (f x)) xs) .0 e in both (so .0) (all-map p f xs (so .1))
 
 -- a surface number that names one of the names
-named : (pointCount nameCount : ℕ) (z : ℤ) (p : Polygon) → goodVertices lwobVertexLimit pointCount (p .vertices) ≡ true → between FACE PATCH (p .kind) ≡ true → p .surface ≡ absolute z → narrow z ≡ true → inNameList nameCount z ≡ true
+named : (pointCount nameCount : ℕ) (z : ℤ) (p : Polygon) → goodVertices lwobVertexLimit pointCount (p .vertices) ≡ true → between FACE PATCH (p .kind) ≡ true
+    → p .surface ≡ absolute z → narrow z ≡ true → inNameList nameCount z ≡ true
     → goodPolygon pointCount nameCount p ≡ true
 named pointCount nameCount z p vs kind same few l =
     let range = between-true 1 nameCount (absolute z) l in
@@ -422,7 +433,8 @@ module _ {B : Type 0} {most : ℕ} (pointCount nameCount : ℕ) where
       (λ e. obeys-then _ (obeys-uint 2) (λ n h. obeys-then _ (obeys-times (obeys-then {good = any} _ obeys-lwob-vertices (λ vs h. obeys-more (obeys-unless _ _ refl (obeys-unless _ _ refl obeys-i2)) (λ x h e. refl))) n) (λ ds h. obeys-give (λ h. refl))))
       (λ e. obeys-give (λ h. refl))
 
-  obeys-faces : (kind : Kind) (b : Before) → count (b .points) ≡ pointCount → count (b .names) ≡ nameCount → Obeys B most (goodPart kind b) (facesBody pointCount nameCount)
+  obeys-faces : (kind : Kind) (b : Before) → count (b .points) ≡ pointCount → count (b .names) ≡ nameCount
+      → Obeys B most (goodPart kind b) (facesBody pointCount nameCount)
   unfolding facesBody face numberOf
   obeys-faces kind b is-points is-names =
       obeys-then _
@@ -432,7 +444,8 @@ module _ {B : Type 0} {most : ℕ} (pointCount nameCount : ℕ) where
       (λ n hn. obeys-give (λ h. let so = and-eq-true-iff (narrow z) (inNameList nameCount z) .0 (hz h) in named pointCount nameCount z _ (hvs h) refl refl (so .0) (so .1)))))))
       (λ fs has. obeys-give (λ h. rw (is-points, is-names) (all-map (goodPolygon pointCount nameCount) (λ (f : Polygon × ℕ). f .0) fs (has h))))
 
-  obeys-patches : (kind : Kind) (b : Before) → count (b .points) ≡ pointCount → count (b .names) ≡ nameCount → Obeys B most (goodPart kind b) (patchesBody pointCount nameCount)
+  obeys-patches : (kind : Kind) (b : Before) → count (b .points) ≡ pointCount → count (b .names) ≡ nameCount
+      → Obeys B most (goodPart kind b) (patchesBody pointCount nameCount)
   unfolding patchesBody patch numberOf
   obeys-patches kind b is-points is-names =
       obeys-then _
@@ -484,7 +497,7 @@ module _ {B : Type 0} {most : ℕ} where
 
 -- a chunk's judgement, after what stands before it
 record JudgesWell (B : Type 0) (kind : Kind) (b : Before) (judging : List ℕ → Verdict Part) : Type 0 where
-  each : (body : List ℕ) → (B → all byte body ≡ true) → Judged B (8 + length body) (goodPart kind b) (judging body)
+  each : (body : List ℕ) → (B → all byte body ≡ true) → JudgedGood B (8 + length body) (goodPart kind b) (judging body)
 
 module _ {B : Type 0} {kind : Kind} {b : Before} where
   sound-when : {r : Reader Part} (ok : Bool) → (ok ≡ true → (most : ℕ) → Obeys B most (goodPart kind b) r) → JudgesWell B kind b (when ok read r)
@@ -507,11 +520,13 @@ sound-judge {B} kind b t =
     })
 
 -- a fault of a chunk is one of a chunk's, and lies within it
-pub fault-in-chunk : (kind : Kind) (b : Before) (t : ℕ) (body : List ℕ) {why : Fault} {p : ℕ} → judge kind b t body ≡ fault why p → Faulty (8 + length body) why p
+pub fault-in-chunk : (kind : Kind) (b : Before) (t : ℕ) (body : List ℕ) {why : Fault} {p : ℕ} → judge kind b t body ≡ fault why p
+    → Faulty (8 + length body) why p
 fault-in-chunk kind b t body {why} {p} e =
-    let j : Judged ⊥ (8 + length body) (goodPart kind b) (fault why p) = rw e at (sound-judge {B = ⊥} kind b t .each body (λ h. absurd h)) in j
+    let j : JudgedGood ⊥ (8 + length body) (goodPart kind b) (fault why p) = rw e at (sound-judge {B = ⊥} kind b t .each body (λ h. absurd h)) in j
 
 -- what a chunk of bytes contributes is good
-pub part-good : (kind : Kind) (b : Before) (t : ℕ) (body : List ℕ) {part : Part} → all byte body ≡ true → judge kind b t body ≡ fine part → goodPart kind b part ≡ true
+pub part-good : (kind : Kind) (b : Before) (t : ℕ) (body : List ℕ) {part : Part} → all byte body ≡ true → judge kind b t body ≡ fine part
+    → goodPart kind b part ≡ true
 part-good kind b t body {part} bytes e =
-    let j : Judged (Unit {0}) (8 + length body) (goodPart kind b) (fine part) = rw e at (sound-judge {B = Unit} kind b t .each body (λ h. bytes)) in j tt
+    let j : JudgedGood (Unit {0}) (8 + length body) (goodPart kind b) (fine part) = rw e at (sound-judge {B = Unit} kind b t .each body (λ h. bytes)) in j tt

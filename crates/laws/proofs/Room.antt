@@ -58,7 +58,7 @@ more-room (gives m k d) t u h other =
 -- ---- when the answer is 16
 
 -- a mesh that the tables do not hold
-pub record NoRoom (o : Outcome) (t : Tables) : Type 0 where
+pub record MeshWithoutRoom (o : Outcome) (t : Tables) : Type 0 where
   pub mesh : Mesh
   pub skipped : ℕ
   pub details : ℕ
@@ -95,7 +95,7 @@ refused-range s {number} e = by (judged s) e
     by (fault why at) e = let same : numberOf why ≡ number = cc in between-true 1 15 number (ap (between 1 15) (sym same) ∙ number-range why)
 
 -- what was judged is answered with 16 only where it is a mesh that the tables do not hold
-no-room-of : (v : Verdict (Kind × List PartAt)) (t : Tables) → answer (outcome v) t .number ≡ noRoom → NoRoom (outcome v) t
+no-room-of : (v : Verdict (Kind × List PartAt)) (t : Tables) → answer (outcome v) t .number ≡ noRoom → MeshWithoutRoom (outcome v) t
 unfolding outcome answer
 no-room-of (fault why at) t e = absurd (omega (arith, between-true 1 15 (numberOf why) (number-range why)))
 no-room-of (fine f) t e = record { mesh = m; skipped = _; details = _; given = refl; short = go (fits (needs m) t) e }
@@ -108,12 +108,12 @@ no-room-of (fine f) t e = record { mesh = m; skipped = _; details = _; given = r
     go false e = refl
 
 -- where there is such a mesh, the answer is 16, and all five needs and both counts are told
-pub no-room-answer : (o : Outcome) (t : Tables) (n : NoRoom o t)
+pub no-room-answer : (o : Outcome) (t : Tables) (n : MeshWithoutRoom o t)
     → answer o t ≡ record { number = noRoom; place = 0; needs = needs (n .mesh); skipped = n .skipped; details = n .details }
 unfolding answer
 no-room-answer o t n = rw (n .given, n .short)
 
 -- and the answer to a file is 16 nowhere else
-pub no-room-exactly : (s : List ℕ) (t : Tables) → (answer (rules s) t .number ≡ noRoom) ↔ NoRoom (rules s) t
+pub no-room-exactly : (s : List ℕ) (t : Tables) → (answer (rules s) t .number ≡ noRoom) ↔ MeshWithoutRoom (rules s) t
 unfolding rules
 no-room-exactly s t = (no-room-of (judged s) t, λ n. ap (λ (a : Answer). a .number) (no-room-answer (rules s) t n))

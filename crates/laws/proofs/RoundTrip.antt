@@ -19,14 +19,14 @@ use Rattle.format.specs.Written.{goodNames, goodMesh}
 use Rattle.format.proofs.Facts.{all-and}
 use Rattle.laws.proofs.Tiles.{inFront, chunks-row}
 use Rattle.laws.proofs.Bodies.{goodPoint}
-use Rattle.laws.proofs.Walk.{canonicalParts, Judged, row-judged, walk-judged, asRead, on-names, on-points, on-runs, on-surfaces, counted}
+use Rattle.laws.proofs.Walk.{canonicalParts, WalkedAs, row-judged, walk-judged, asRead, on-names, on-points, on-runs, on-surfaces, counted}
 use Rattle.laws.proofs.Polygons.{joined-runs}
 use Rattle.laws.proofs.Meshes.{Good, good, outcome-back}
 use Rattle.laws.proofs.Form.{rules-form}
 use Rattle.laws.proofs.Lengths.{Counts, counts, chunks-within}
 
 -- the chunks of its canonical file are judged fine, one after the other
-judged-chunks : (m : Mesh) → Good m → Counts m fileLimit → Judged start (canonicalChunks m) (canonicalParts m)
+judged-chunks : (m : Mesh) → Good m → Counts m fileLimit → WalkedAs start (canonicalChunks m) (canonicalParts m)
 unfolding canonicalChunks
 judged-chunks m g c =
     on-names (m .names) (g .names)
@@ -41,7 +41,7 @@ round-trip m ok short =
     let g : Good m = good m ok in
     let c : Counts m fileLimit = counts m fileLimit short in
     let within = chunks-within m fileLimit short in
-    let all-judged : Judged start (canonicalChunks m) (canonicalParts m) = judged-chunks m g c in
+    let all-judged : WalkedAs start (canonicalChunks m) (canonicalParts m) = judged-chunks m g c in
     let rest : List ℕ = joined (map encoded (canonicalChunks m)) in
     let found : chunks rest ≡ inFront (map asRead (canonicalChunks m)) finished = unfold chunks split in rw append-nil at (chunks-row (row-judged all-judged (omega arith)) []) in
     rules-form LWO2 rest within ∙ rw (found, walk-judged 12 all-judged) (outcome-back m g)

@@ -75,7 +75,8 @@ surface-words e long = elements-are 0 recordSize e (omega arith) ∙ take-all re
 
 -- ---- polygons
 
-polygon-words : {es : List (List ℕ)} → Even polygonSize es → (vs : List ℕ) → sum (map (word 1) es) ≡ length vs → map polygonWords (polygonsFrom es (pieces (map (word 1) es) vs)) ≡ es
+polygon-words : {es : List (List ℕ)} → Even polygonSize es → (vs : List ℕ) → sum (map (word 1) es) ≡ length vs
+    → map polygonWords (polygonsFrom es (pieces (map (word 1) es) vs)) ≡ es
 unfolding polygonsFrom pieces sum
 polygon-words no-more vs agree = refl
 polygon-words (one-more {e = e} {es = es} long even) vs agree =
@@ -128,7 +129,8 @@ tables-back t ok = λ i. record {
 
 -- ---- the tables of a mesh
 
-same-lengths : {A : Type 0} (n : ℕ) (words : A → List ℕ) → ((x : A) → length (words x) ≡ n) → (xs : List A) → replicate (length xs) n ≡ map length (map words xs)
+same-lengths : {A : Type 0} (n : ℕ) (words : A → List ℕ) → ((x : A) → length (words x) ≡ n) → (xs : List A)
+    → replicate (length xs) n ≡ map length (map words xs)
 same-lengths n words long [] = refl
 same-lengths n words long (x ∷ xs) = rw (long x, same-lengths n words long xs)
 

@@ -70,7 +70,8 @@ unfolding sum
 sums f [] qs = refl
 sums f (p ∷ ps) qs = omega (arith, sums f ps qs)
 
-polygons-same : (base end : ℕ) (latest : List Polygon) (ps qs : List Part) → polygonsIn base end latest (ps ++ skippedChunk ∷ qs) ≡ polygonsIn base end latest (ps ++ qs)
+polygons-same : (base end : ℕ) (latest : List Polygon) (ps qs : List Part)
+    → polygonsIn base end latest (ps ++ skippedChunk ∷ qs) ≡ polygonsIn base end latest (ps ++ qs)
 unfolding polygonsIn
 polygons-same base end latest [] qs = refl
 polygons-same base end latest (pointList pts ∷ ps) qs = polygons-same _ _ _ ps qs

@@ -37,16 +37,16 @@ unfolding located _andThen_
 walk-on kind b place t body rest judged later = parts-chunk kind b place t body rest ∙ rw (judged, later)
 
 -- chunks, as they are written, that are judged fine one after the other, and what they contribute
-pub data Judged : Before → List (String × List ℕ) → List Part → Type 0 where
-  over : {b : Before} → Judged b [] []
+pub data WalkedAs : Before → List (String × List ℕ) → List Part → Type 0 where
+  over : {b : Before} → WalkedAs b [] []
   on : {b : Before} {c : String × List ℕ} {cs : List (String × List ℕ)} {p : Part} {ps : List Part} → isTag (c .0) ≡ true
-      → judge LWO2 b (number (spelt (c .0))) (c .1) ≡ fine p → Judged (after b p) cs ps → Judged b (c ∷ cs) (p ∷ ps)
+      → judge LWO2 b (number (spelt (c .0))) (c .1) ≡ fine p → WalkedAs (after b p) cs ps → WalkedAs b (c ∷ cs) (p ∷ ps)
 
 -- such a chunk, as it is read
 abbrev pub asRead : String × List ℕ → Chunk
 asRead c = record { tag = number (spelt (c .0)); body = c .1 }
 
-pub row-judged : {b : Before} {cs : List (String × List ℕ)} {ps : List Part} → Judged b cs ps → length (joined (map encoded cs)) < 256 ^ 4
+pub row-judged : {b : Before} {cs : List (String × List ℕ)} {ps : List Part} → WalkedAs b cs ps → length (joined (map encoded cs)) < 256 ^ 4
     → Row (chunkOf 4) (map encoded cs) (map asRead cs)
 unfolding joined
 row-judged over small = none
@@ -55,7 +55,8 @@ row-judged (on {c = c} {cs = cs} good judged later) small =
     let less = shorter 4 (c .0) (c .1) good in
     more (reads-chunk 4 (c .0) (c .1) good (omega arith)) (omega arith) (row-judged later (omega arith))
 
-pub walk-judged : {b : Before} {cs : List (String × List ℕ)} {ps : List Part} (place : ℕ) → Judged b cs ps → walkParts LWO2 b place (inFront (map asRead cs) finished) ≡ fine ps
+pub walk-judged : {b : Before} {cs : List (String × List ℕ)} {ps : List Part} (place : ℕ) → WalkedAs b cs ps
+    → walkParts LWO2 b place (inFront (map asRead cs) finished) ≡ fine ps
 unfolding inFront
 walk-judged {b} place over = parts-finished LWO2 b place
 walk-judged place (on {c = c} {cs = cs} good judged later) =
@@ -71,17 +72,20 @@ judged-names : (ns : List Name) → goodNames [] ns ≡ true → judge LWO2 star
 unfolding judge when_read_ number
 judged-names ns ok = wholly 0 8 (ends-names ns ok)
 
-judged-points : (b : Before) (ps : List Point) → all goodPoint ps ≡ true → judge LWO2 b (number (spelt "PNTS")) (joined (map pointBytes ps)) ≡ fine (pointList ps)
+judged-points : (b : Before) (ps : List Point) → all goodPoint ps ≡ true
+    → judge LWO2 b (number (spelt "PNTS")) (joined (map pointBytes ps)) ≡ fine (pointList ps)
 unfolding judge when_read_ number
 judged-points b ps ok = wholly 0 8 (ends-points ps ok)
 
-judged-run : (pointCount nameCount : ℕ) (gs ns : Option ℕ) → pointCount ≤ 2 ^ 24 → (p : Polygon) (r : List Polygon) → all (goodPolygon pointCount nameCount) (p ∷ r) ≡ true
+judged-run : (pointCount nameCount : ℕ) (gs ns : Option ℕ) → pointCount ≤ 2 ^ 24 → (p : Polygon) (r : List Polygon)
+    → all (goodPolygon pointCount nameCount) (p ∷ r) ≡ true
     → judge LWO2 (state (some pointCount) gs ns) (number (spelt "POLS")) (spelt (typeOf (p .kind)) ++ joined (map polygonBytes (p ∷ r))) ≡ fine (polygonList (map (bare (p .kind)) (p ∷ r)) 0)
 unfolding judge when_read_ number
 judged-run pointCount nameCount gs ns few p r ok =
     wholly 0 8 (ends-run pointCount nameCount (p .kind) few (good-polygon pointCount nameCount p (all-first _ p r ok) .kinds) (p ∷ r) ok)
 
-judged-pairs : (pointCount polygonCount : ℕ) (pts ns : Option ℕ) → polygonCount ≤ 2 ^ 24 → (ps : List Polygon) → length ps ≤ polygonCount → all (goodPolygon pointCount (count ns)) ps ≡ true
+judged-pairs : (pointCount polygonCount : ℕ) (pts ns : Option ℕ) → polygonCount ≤ 2 ^ 24 → (ps : List Polygon) → length ps ≤ polygonCount
+    → all (goodPolygon pointCount (count ns)) ps ≡ true
     → judge LWO2 (state pts (some polygonCount) ns) (number (spelt "PTAG")) (spelt "SURF" ++ joined (map pairBytes (pairsOf 0 ps))) ≡ fine (surfaceTags (pairsOf 0 ps))
 unfolding judge when_read_ number
 judged-pairs pointCount polygonCount pts ns few ps fits ok = wholly 0 8 (ends-pairs pointCount polygonCount (count ns) few ps fits ok)
@@ -111,24 +115,26 @@ unless part (x ∷ xs) = part (x ∷ xs) ∷ []
 on-unless : {A : Type 0} {cs : List (String × List ℕ)} {ps : List Part} (tag type : String) (bytesOf : A → List ℕ) (part : List A → Part) (next : List A → Before) (xs : List A)
     → isTag tag ≡ true → ((x : A) (xs : List A) → next (x ∷ xs) ≡ after (next []) (part (x ∷ xs)))
     → judge LWO2 (next []) (number (spelt tag)) (spelt type ++ joined (map bytesOf xs)) ≡ fine (part xs)
-    → Judged (next xs) cs ps → Judged (next []) (unlessEmpty tag type bytesOf xs ++ cs) (unless part xs ++ ps)
+    → WalkedAs (next xs) cs ps → WalkedAs (next []) (unlessEmpty tag type bytesOf xs ++ cs) (unless part xs ++ ps)
 unfolding unlessEmpty
 on-unless tag type bytesOf part next [] good step judged later = later
 on-unless tag type bytesOf part next (x ∷ xs) good step judged later = on good judged (rw (step x xs) at later)
 
-pub on-names : {cs : List (String × List ℕ)} {ps : List Part} (ns : List Name) → goodNames [] ns ≡ true → Judged (state none none (counted ns)) cs ps
-    → Judged start (unlessEmpty "TAGS" "" stringBytes ns ++ cs) (unless nameList ns ++ ps)
+pub on-names : {cs : List (String × List ℕ)} {ps : List Part} (ns : List Name) → goodNames [] ns ≡ true → WalkedAs (state none none (counted ns)) cs ps
+    → WalkedAs start (unlessEmpty "TAGS" "" stringBytes ns ++ cs) (unless nameList ns ++ ps)
 unfolding all after
 on-names ns ok later = on-unless "TAGS" "" stringBytes nameList (λ ns. state none none (counted ns)) ns refl (λ n ns. refl) (judged-names ns ok) later
 
-pub on-points : {cs : List (String × List ℕ)} {ps : List Part} (nms : Option ℕ) (pts : List Point) → all goodPoint pts ≡ true → Judged (state (counted pts) none nms) cs ps
-    → Judged (state none none nms) (unlessEmpty "PNTS" "" pointBytes pts ++ cs) (unless pointList pts ++ ps)
+pub on-points : {cs : List (String × List ℕ)} {ps : List Part} (nms : Option ℕ) (pts : List Point) → all goodPoint pts ≡ true
+    → WalkedAs (state (counted pts) none nms) cs ps
+    → WalkedAs (state none none nms) (unlessEmpty "PNTS" "" pointBytes pts ++ cs) (unless pointList pts ++ ps)
 unfolding all after
 on-points nms pts ok later = on-unless "PNTS" "" pointBytes pointList (λ pts. state (counted pts) none nms) pts refl (λ p ps. refl) (judged-points _ pts ok) later
 
 on-pairs : {cs : List (String × List ℕ)} {ps : List Part} (pts : Option ℕ) (pointCount polygonCount : ℕ) (ns : List Name) (r : List Polygon)
-    → length r ≤ polygonCount → polygonCount ≤ 2 ^ 24 → all (goodPolygon pointCount (length ns)) r ≡ true → Judged (state pts (some polygonCount) (counted ns)) cs ps
-    → Judged (state pts (some polygonCount) (counted ns)) (unlessEmpty "PTAG" "SURF" pairBytes (pairsOf 0 r) ++ cs) (unless surfaceTags (pairsOf 0 r) ++ ps)
+    → length r ≤ polygonCount → polygonCount ≤ 2 ^ 24 → all (goodPolygon pointCount (length ns)) r ≡ true
+    → WalkedAs (state pts (some polygonCount) (counted ns)) cs ps
+    → WalkedAs (state pts (some polygonCount) (counted ns)) (unlessEmpty "PTAG" "SURF" pairBytes (pairsOf 0 r) ++ cs) (unless surfaceTags (pairsOf 0 r) ++ ps)
 unfolding all after
 on-pairs pts pointCount polygonCount ns r fits few ok later =
     on-unless "PTAG" "SURF" pairBytes surfaceTags (λ ts. state pts (some polygonCount) (counted ns)) (pairsOf 0 r) refl (λ t ts. refl)
@@ -146,9 +152,10 @@ some-point pointCount nameCount p ok = let g = good-polygon pointCount nameCount
     go [] long ok = absurd (omega arith)
     go (v ∷ vs) long ok = omega (arith, ltb-true v pointCount (all-first _ v vs ok))
 
-on-run : {cs : List (String × List ℕ)} {ps : List Part} (gs : Option ℕ) (pts : List Point) (ns : List Name) → length pts ≤ 2 ^ 24 → (r : List Polygon) → length r ≤ 2 ^ 24
-    → all (goodPolygon (length pts) (length ns)) r ≡ true → ((gs : Option ℕ) → Judged (state (counted pts) gs (counted ns)) cs ps)
-    → Judged (state (counted pts) gs (counted ns)) (runChunks r ++ cs) (runParts r ++ ps)
+on-run : {cs : List (String × List ℕ)} {ps : List Part} (gs : Option ℕ) (pts : List Point) (ns : List Name) → length pts ≤ 2 ^ 24 → (r : List Polygon)
+    → length r ≤ 2 ^ 24
+    → all (goodPolygon (length pts) (length ns)) r ≡ true → ((gs : Option ℕ) → WalkedAs (state (counted pts) gs (counted ns)) cs ps)
+    → WalkedAs (state (counted pts) gs (counted ns)) (runChunks r ++ cs) (runParts r ++ ps)
 unfolding runChunks runParts unlessEmpty after all
 on-run gs pts ns few [] short ok later = later gs
 on-run gs [] ns few (p ∷ r) short ok later = absurd (omega (arith, some-point 0 (length ns) p (all-first (goodPolygon 0 (length ns)) p r ok)))
@@ -157,9 +164,11 @@ on-run gs (pt ∷ pts) ns few (p ∷ r) short ok later =
     let same : length (map (bare (p .kind)) (p ∷ r)) ≡ suc (length r) = length-map (p ∷ r) (bare (p .kind)) in
     on refl (judged-run n (length ns) gs (counted ns) few p r ok) (on-pairs (some n) n _ ns (p ∷ r) (omega arith) (omega arith) ok (later _))
 
-pub on-runs : {cs : List (String × List ℕ)} {ps : List Part} (gs : Option ℕ) (pts : List Point) (ns : List Name) → length pts ≤ 2 ^ 24 → (rs : List (List Polygon))
-    → length (joined rs) ≤ 2 ^ 24 → all (goodPolygon (length pts) (length ns)) (joined rs) ≡ true → ((gs : Option ℕ) → Judged (state (counted pts) gs (counted ns)) cs ps)
-    → Judged (state (counted pts) gs (counted ns)) (joined (map runChunks rs) ++ cs) (joined (map runParts rs) ++ ps)
+pub on-runs : {cs : List (String × List ℕ)} {ps : List Part} (gs : Option ℕ) (pts : List Point) (ns : List Name) → length pts ≤ 2 ^ 24
+    → (rs : List (List Polygon))
+    → length (joined rs) ≤ 2 ^ 24 → all (goodPolygon (length pts) (length ns)) (joined rs) ≡ true
+    → ((gs : Option ℕ) → WalkedAs (state (counted pts) gs (counted ns)) cs ps)
+    → WalkedAs (state (counted pts) gs (counted ns)) (joined (map runChunks rs) ++ cs) (joined (map runParts rs) ++ ps)
 unfolding joined
 on-runs gs pts ns few [] short ok later = later gs
 on-runs {cs} {ps} gs pts ns few (r ∷ rs) short ok later =
@@ -175,7 +184,7 @@ surfaceParts (n ∷ ns) [] = []
 surfaceParts (n ∷ ns) (s ∷ ss) = (if eqb (s .defined) 1 then surface (written n s) ∷ [] else []) ++ surfaceParts ns ss
 
 pub on-surfaces : (b : Before) (earlier ns : List Name) (ss : List Surface) → goodNames earlier ns ≡ true → all goodSurface ss ≡ true
-    → Judged b (surfaceChunks ns ss) (surfaceParts ns ss)
+    → WalkedAs b (surfaceChunks ns ss) (surfaceParts ns ss)
 unfolding surfaceChunks surfaceParts
 on-surfaces b earlier [] ss names-ok ok = over
 on-surfaces b earlier (n ∷ ns) [] names-ok ok = over
@@ -183,8 +192,9 @@ on-surfaces b earlier (n ∷ ns) (s ∷ ss) names-ok ok =
     go (eqb (s .defined) 1) (judged-surface b earlier n ns s names-ok (all-first _ s ss ok))
     (on-surfaces b (earlier ++ (n ∷ [])) ns ss (good-name earlier n ns names-ok .rest) (all-rest _ s ss ok))
   where
-    go : (d : Bool) → judge LWO2 b (number (spelt "SURF")) (surfaceBytes n s) ≡ fine (surface (written n s)) → Judged b (surfaceChunks ns ss) (surfaceParts ns ss)
-        → Judged b ((if d then ("SURF", surfaceBytes n s) ∷ [] else []) ++ surfaceChunks ns ss) ((if d then surface (written n s) ∷ [] else []) ++ surfaceParts ns ss)
+    go : (d : Bool) → judge LWO2 b (number (spelt "SURF")) (surfaceBytes n s) ≡ fine (surface (written n s))
+        → WalkedAs b (surfaceChunks ns ss) (surfaceParts ns ss)
+        → WalkedAs b ((if d then ("SURF", surfaceBytes n s) ∷ [] else []) ++ surfaceChunks ns ss) ((if d then surface (written n s) ∷ [] else []) ++ surfaceParts ns ss)
     go true judged later = unfold all after in on refl judged later
     go false judged later = later
 

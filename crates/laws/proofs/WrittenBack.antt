@@ -23,13 +23,13 @@ use Rattle.laws.proofs.Tables.{good-tables, tables-back, mesh-from-tabl
 -- ---- what the writer wrote
 
 -- what holds where the writer writes
-pub record Wrote (t : Tables) (room : ℕ) : Type 0 where
+pub record AcceptedWrite (t : Tables) (room : ℕ) : Type 0 where
   pub mesh : isMesh t ≡ true
   pub short : length (canonical (meshFrom t)) ≤ fileLimit
   pub fits : length (canonical (meshFrom t)) ≤ room
   pub long : written t room .length ≡ length (canonical (meshFrom t))
 
-pub wrote : (t : Tables) (room : ℕ) → written t room .number ≡ 0 → Wrote t room
+pub wrote : (t : Tables) (room : ℕ) → written t room .number ≡ 0 → AcceptedWrite t room
 unfolding written
 wrote t room done = go (isMesh t) (ltb fileLimit n) (ltb room n) refl refl refl done
   where
@@ -37,7 +37,7 @@ wrote t room done = go (isMesh t) (ltb fileLimit n) (ltb room n) refl refl refl 
     n = length (canonical (meshFrom t))
 
     go : (a b c : Bool) → isMesh t ≡ a → ltb fileLimit n ≡ b → ltb room n ≡ c
-        → (if not a then says notMesh 0 else if b then says tooLong 0 else if c then says noRoom n else says 0 n) .number ≡ 0 → Wrote t room
+        → (if not a then says notMesh 0 else if b then says tooLong 0 else if c then says noRoom n else says 0 n) .number ≡ 0 → AcceptedWrite t room
     go false b c ea eb ec done = absurd (omega arith)
     go true true c ea eb ec done = absurd (omega arith)
     go true false true ea eb ec done = absurd (omega arith)
@@ -48,7 +48,7 @@ pub written-back : (t : Tables) (out : List ℕ) → written t (length out) .num
     → rules (take (written t (length out) .length) (outputAfter t out)) ≡ gives (meshFrom t) 0 0
 unfolding outputAfter
 written-back t out done =
-    let w : Wrote t (length out) = wrote t (length out) done in
+    let w : AcceptedWrite t (length out) = wrote t (length out) done in
     let file : List ℕ = canonical (meshFrom t) in
     rw (w .long, done, take-at file (drop (length file) out) (length file) refl)
     (round-trip (meshFrom t) (good-tables t (w .mesh)) (w .short))

@@ -91,7 +91,8 @@ polygons-size (e ∷ es) vs agree =
     let all-of : total vxBytes vs ≡ total vxBytes here + total vxBytes (drop n vs) = rw (take-append-drop n vs) at both in
     omega (arith, length-append (count ++ corners) (joined (map polygonBytes rest)), length-append count corners, length-bytes 2 (length here), polygons-size es (drop n vs) (omega (arith, length-drop n vs)))
 
-pub polygons-held : (ws vs : List ℕ) → sum (vertexCounts ws) ≡ length vs → total polygonBytes (meshPolygons ws vs) ≡ 2 * (length ws / polygonSize) + total vxBytes vs
+pub polygons-held : (ws vs : List ℕ) → sum (vertexCounts ws) ≡ length vs
+    → total polygonBytes (meshPolygons ws vs) ≡ 2 * (length ws / polygonSize) + total vxBytes vs
 unfolding meshPolygons
 polygons-held ws vs agree = rw (← length-entries polygonSize ws) (polygons-size (entries polygonSize ws) vs agree)
 

@@ -51,7 +51,8 @@ RunsLeft ws vs bytes at first rs =
     SizeSum (total encoded (joined (map runChunks (runs (meshPolygons ws vs))))) bytes (total encoded (joined (map runChunks rs))) (12 * at + 4 * first)
 
 module _ {ws vs : List ℕ} {bytes at first : ℕ} (w : RunWalk ws vs (RunsLeft ws vs bytes at first) at first) where
-  pub runs-end : length ws - at < polygonSize → Counted bytes (total encoded (joined (map runChunks (runs (meshPolygons ws vs))))) (12 * length ws + 4 * length vs)
+  pub runs-end : length ws - at < polygonSize
+      → Counted bytes (total encoded (joined (map runChunks (runs (meshPolygons ws vs))))) (12 * length ws + 4 * length vs)
   unfolding joined
   runs-end short = sizes.end (end w short) refl (omega (arith, w .walk .inside, w .walk .agree))
 

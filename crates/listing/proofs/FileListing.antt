@@ -7,7 +7,7 @@ use Rattle.format.specs.Mesh.{Tables, pointSize, polygonSize, recordSize, Needs
 use Rattle.format.specs.Rules.{Outcome, refused, gives, rules}
 use Rattle.format.specs.Answer.{answer, fits, Reads}
 use Rattle.output.specs.Outputs.{Wrote}
-use Rattle.read_answer.specs.declared.Answer.{Answer}
+use Rattle.read_answer.specs.declared.ReadAnswer.{ReadAnswer}
 use Rattle.read_answer.specs.Reads.{answerAs}
 use Rattle.listing_answer.specs.Listing.{listing, polygonsGiven}
 use Rattle.listing_answer.specs.Lent.{countedPolygons}
@@ -32,7 +32,7 @@ unfolding answer
 same-answer (refused number place) t h = refl
 same-answer (gives m k d) t h = rw (same-room (needs m) t h)
 
-module _ {file : List ℕ} {t t′ : Tables} {a : Answer} (r : Reads file t (answerAs a) t′) (lent : ProgramLengths t) where
+module _ {file : List ℕ} {t t′ : Tables} {a : ReadAnswer} (r : Reads file t (answerAs a) t′) (lent : ProgramLengths t) where
   same-listing : listing (answerAs a) (countedPolygons a (t′ .polygons) (t′ .vertices)) ≡ fileListing file
   unfolding fileListing
   same-listing = after-reading r .same ∙ ap (λ x. listing x (polygonsGiven (rules file))) (same-answer (rules file) t lent)

@@ -16,7 +16,7 @@ use Rattle.format.proofs.PolygonTables.{words-length, vertices-length}
 use Rattle.laws.proofs.Tables.{mesh-from-tables}
 use Rattle.mesh.specs.Lent.{meshPolygons}
 use Rattle.mesh.proofs.Entries.{first}
-use Rattle.read_answer.specs.declared.Answer.{Answer}
+use Rattle.read_answer.specs.declared.ReadAnswer.{ReadAnswer}
 use Rattle.read_answer.specs.Reads.{answerAs}
 use Rattle.listing_answer.specs.Listing.{listing, polygonsGiven}
 use Rattle.listing_answer.specs.Lent.{CountsHeld, polygonsFront, verticesFront, countedPolygons}
@@ -35,11 +35,11 @@ polygons-back m = ap (λ (m : Mesh). m .polygons) (mesh-from-tables m)
 -- ---- after the reading
 
 -- the tables hold what an accepted answer counts, and those polygons are the mesh's
-pub record ListsOutcome (a : Answer) (t t′ : Tables) (o : Outcome) : Type 0 where
+pub record ListsOutcome (a : ReadAnswer) (t t′ : Tables) (o : Outcome) : Type 0 where
   pub counts-held : a .number ≡ 0 → CountsHeld a (t′ .polygons) (t′ .vertices)
   pub same : listing (answerAs a) (countedPolygons a (t′ .polygons) (t′ .vertices)) ≡ listing (answer o t) (polygonsGiven o)
 
-module _ {a : Answer} {t t′ : Tables} where
+module _ {a : ReadAnswer} {t t′ : Tables} where
   after-refusal : (number place : ℕ) → answerAs a ≡ answer (refused number place) t → ListsOutcome a t t′ (refused number place)
   unfolding answer polygonsGiven countedPolygons meshPolygons polygonsFrom entries pieces sum
   after-refusal number place answers =

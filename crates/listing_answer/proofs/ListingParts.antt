@@ -7,14 +7,14 @@ use lib.ListN.{length}
 use lib.Seq.{length-take-le}
 use borrow.Author.Tests.{eq-eqb, ne-eqb}
 use Rattle.format.specs.Mesh.{polygonSize}
-use Rattle.read_answer.specs.declared.Answer.{Answer}
+use Rattle.read_answer.specs.declared.ReadAnswer.{ReadAnswer}
 use Rattle.read_answer.specs.Reads.{answerAs}
 use Rattle.listing_text.specs.Prints.{Prints, LinesLent, PrintsLines, linesSize}
 use Rattle.listing_text.proofs.PrintedSoFar.{at-most, then-prints}
 use Rattle.listing_answer.specs.Listing.{countLines, refusalLine, listing}
 use Rattle.listing_answer.specs.Lent.{ListingLent, CountsHeld, PrintsListing, countsSize, outputSize, polygonsFront, verticesFront, countedPolygons}
 
-module _ {out ps vs : List ℕ} {a : Answer} (w : ListingLent out a ps vs) where
+module _ {out ps vs : List ℕ} {a : ReadAnswer} (w : ListingLent out a ps vs) where
   pub refused : {out′ : List ℕ} {next n : ℕ} → (a .number ≡ 0 → ⊥) → n ≡ a .number → Prints out 0 (refusalLine n (a .place)) out′ next countsSize
       → PrintsListing out a ps vs out′ next
   unfolding listing
@@ -37,7 +37,8 @@ module _ {out ps vs : List ℕ} {a : Answer} (w : ListingLent out a ps vs) where
         room = omega (arith, words-there, vertices-there, enough-there .enough, enough-there .enough-vertices, w .room, p .few, p .wrote .kept);
       }
 
-      pub accepted : {out″ : List ℕ} {last : ℕ} → PrintsLines out′ next (polygonsFront a ps) (verticesFront a vs) out″ last → PrintsListing out a ps vs out″ last
+      pub accepted : {out″ : List ℕ} {last : ℕ} → PrintsLines out′ next (polygonsFront a ps) (verticesFront a vs) out″ last
+          → PrintsListing out a ps vs out″ last
       unfolding listing countedPolygons
       accepted q =
           let few : countsSize + linesSize (polygonsFront a ps) (verticesFront a vs) ≤ outputSize ps vs =

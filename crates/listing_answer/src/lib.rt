@@ -11,11 +11,11 @@ use listing_text::numbers::put_count;
 use listing_text::numbers::put_labelled;
 use listing_text::polygons::put_polygons;
 use output::items::put_bytes;
-use read_answer::Answer;
+use read_answer::ReadAnswer;
 use words::wide;
 
 // The lines of the five needs.
-fn put_needs(out: &mut [u8], at: usize, answer: Answer) -> usize
+fn put_needs(out: &mut [u8], at: usize, answer: ReadAnswer) -> usize
     requires { ⌜ at + needsSize ≤ length (now out) ⌝ }
     ensures { λ r. ⌜ Prints (now (out .entry)) at (needLines (answerAs answer .needs)) (now (out .exit)) r needsSize ⌝ }
 {
@@ -27,7 +27,7 @@ fn put_needs(out: &mut [u8], at: usize, answer: Answer) -> usize
 }
 
 // The lines of an accepted file before its polygons.
-fn put_counts(out: &mut [u8], at: usize, answer: Answer) -> usize
+fn put_counts(out: &mut [u8], at: usize, answer: ReadAnswer) -> usize
     requires { ⌜ at + countsSize ≤ length (now out) ⌝ }
     ensures { λ r. ⌜ Prints (now (out .entry)) at (countLines (answerAs answer)) (now (out .exit)) r countsSize ⌝ }
 {
@@ -48,7 +48,7 @@ fn put_refusal(out: &mut [u8], at: usize, number: usize, place: usize) -> usize
 }
 
 // From the start of the output. On an accepted file the tables hold its polygons at their front.
-pub fn put_listing(out: &mut [u8], answer: Answer, polygons: &[u32], vertices: &[u32]) -> usize
+pub fn put_listing(out: &mut [u8], answer: ReadAnswer, polygons: &[u32], vertices: &[u32]) -> usize
     requires { ⌜ ListingLent (now out) answer (now polygons) (now vertices) ⌝ }
     ensures { λ r. ⌜ PrintsListing (now (out .entry)) answer (now (polygons .entry)) (now (vertices .entry)) (now (out .exit)) r ⌝ }
 {

@@ -18,17 +18,17 @@ use Rattle.listing_text.proofs.PrintedSoFar.{PrintedSoFar}
 
 pub record PrintedPolygons (ws vs t : List ℕ) (at : ℕ) (t′ : List ℕ) (next number entry first : ℕ) : Type 0 where
   pub lent : LinesLent t at ws vs
-  pub counted : number ≤ entry
+  pub numbered : entry ≡ number * polygonSize
   pub walk :
-      PolygonWalk ws vs (λ ps. PrintedSoFar (polygonLines 0 (meshPolygons ws vs)) (polygonLines number ps) t at t′ next (31 * entry + 21 * first)) entry first
+      PolygonWalk ws vs (λ ps. PrintedSoFar (polygonLines 0 (meshPolygons ws vs)) (polygonLines number ps) t at t′ next (93 * number + 21 * first)) entry first
 
 pub begin : {ws vs t : List ℕ} {at : ℕ} → LinesLent t at ws vs → PrintedPolygons ws vs t at t at 0 0 0
-begin lent = record { lent = lent; counted = omega arith; walk = polygons.begin (lent .agree) text.begin }
+begin lent = record { lent = lent; numbered = omega arith; walk = polygons.begin (lent .agree) text.begin }
 
 module _ {ws vs t t′ : List ℕ} {at next number entry first : ℕ} (w : PrintedPolygons ws vs t at t′ next number entry first) where
   pub end : length ws - entry < polygonSize → PrintsLines t at ws vs t′ next
   unfolding polygonLines
-  end short = text.at-most (text.end (polygons.end (w .walk) short) refl) (omega (arith, w .walk .inside, w .walk .agree))
+  end short = text.at-most (text.end (polygons.end (w .walk) short) refl) (omega (arith, w .numbered, w .walk .inside, w .walk .agree))
 
   module _ (fits : polygonSize ≤ length ws - entry) {p : view.Polygon} (is : p ≡ polygonAt ws entry first) where
     abbrev own : List ℕ
@@ -38,7 +38,7 @@ module _ {ws vs t t′ : List ℕ} {at next number entry first : ℕ} (w : Print
     sizes = (own-length (w .walk) fits is, polygons.room (w .walk) fits is)
 
     pub room : next + lineSize own ≤ length t′
-    room = omega (arith, sizes, w .lent .room, w .walk .left .prints .few, w .walk .left .prints .wrote .kept, w .walk .inside)
+    room = omega (arith, sizes, w .numbered, w .lent .room, w .walk .left .prints .few, w .walk .left .prints .wrote .kept, w .walk .inside)
 
     abbrev later : List Polygon
     later = meshPolygons (drop (entry + polygonSize) ws) (drop (p .end) vs)
@@ -53,9 +53,9 @@ module _ {ws vs t t′ : List ℕ} {at next number entry first : ℕ} (w : Print
     pub turn : {t″ : List ℕ} {last : ℕ} → Prints t′ next line t″ last (lineSize own)
         → PrintedPolygons ws vs t at t″ last (number + 1) (entry + polygonSize) (p .end)
     turn v =
-        let lines = text.turn (polygons.here (w .walk) fits is) next-line v (omega (arith, sizes, w .lent .room, w .walk .inside)) in
+        let lines = text.turn (polygons.here (w .walk) fits is) next-line v (omega (arith, sizes, w .numbered, w .lent .room, w .walk .inside)) in
         record {
           lent = w .lent;
-          counted = omega (arith, w .counted);
+          numbered = omega (arith, w .numbered);
           walk = polygons.turn (w .walk) fits is (text.more-room lines (omega (arith, sizes)));
         }

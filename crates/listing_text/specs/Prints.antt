@@ -1,9 +1,10 @@
 -- What the functions that print into the output promise and ask.
-use Prim.Native.Nat.{ℕ, _+_, _*_, _≤_}
+use Prim.Native.Nat.{ℕ, _+_, _*_, _/_, _≤_}
 use mathlib.Core.Path.{_≡_}
 use mathlib.Core.List.{List}
 use lib.ListN.{length}
 use Rattle.format.specs.Bytes.{sum}
+use Rattle.format.specs.Mesh.{polygonSize}
 use Rattle.format.specs.Written.{vertexCounts}
 use Rattle.mesh.specs.Lent.{meshPolygons}
 use Rattle.output.specs.Outputs.{Wrote}
@@ -33,9 +34,9 @@ verticesSize vertices = 21 * length vertices
 abbrev pub lineSize : (vertices : List ℕ) → ℕ
 lineSize vertices = 93 + verticesSize vertices
 
--- The lines of all polygons: 31 bytes for each of the three words of a polygon make 93.
+-- the lines of all polygons
 abbrev pub linesSize : (polygons vertices : List ℕ) → ℕ
-linesSize polygons vertices = 31 * length polygons + verticesSize vertices
+linesSize polygons vertices = 93 * (length polygons / polygonSize) + verticesSize vertices
 
 -- ---- the lines of polygons
 

@@ -81,7 +81,8 @@ module _ {kind : Kind} {file : List ℕ} {nameCount : ℕ} {t : Tables} (r : Tab
   }
 
   -- the names stand in their tables by now
-  pub records-room : {lengths bytes : List ℕ} → FilePut fileNameLengths kind file (t .names) lengths → FilePut fileNameBytes kind file (t .nameBytes) bytes → RecordsRoom kind file nameCount lengths bytes (t .records)
+  pub records-room : {lengths bytes : List ℕ} → FilePut fileNameLengths kind file (t .names) lengths → FilePut fileNameBytes kind file (t .nameBytes) bytes
+      → RecordsRoom kind file nameCount lengths bytes (t .records)
   unfolding needs meshOf
   records-room {lengths} {bytes} p q = record {
     parts = r .parts;
@@ -99,7 +100,8 @@ module _ {kind : Kind} {file : List ℕ} {nameCount : ℕ} {t : Tables} (r : Tab
 put-over : {t ws t′ : List ℕ} → Put t 0 ws t′ → t′ ≡ over ws t
 put-over {t} {ws} p = p .put ∙ ap (λ n. ws ++ drop n t) (zero-add (length ws))
 
-same-tables : (t t′ : Tables) → t .points ≡ t′ .points → t .polygons ≡ t′ .polygons → t .vertices ≡ t′ .vertices → t .names ≡ t′ .names → t .nameBytes ≡ t′ .nameBytes → t .records ≡ t′ .records → t ≡ t′
+same-tables : (t t′ : Tables) → t .points ≡ t′ .points → t .polygons ≡ t′ .polygons → t .vertices ≡ t′ .vertices → t .names ≡ t′ .names
+    → t .nameBytes ≡ t′ .nameBytes → t .records ≡ t′ .records → t ≡ t′
 same-tables t t′ p g v n b s = λ i. record { points = p i; polygons = g i; vertices = v i; names = n i; nameBytes = b i; records = s i }
 
 pub all-put : {kind : Kind} {file : List ℕ} {t t′ : Tables}

@@ -57,7 +57,8 @@ module _ {kind : Kind} {file lengths bytes : List ℕ} (r : NamesFit kind file l
       rw same at (r .bytes-room .fits)
 
   -- from tables that are still as they were
-  puts : {ns : List Name} → allNames parts ≡ ns → {lengths₁ bytes₁ lengths′ bytes′ : List ℕ} → lengths₁ ≡ lengths → bytes₁ ≡ bytes → Put lengths₁ 0 (map length ns) lengths′ → Put bytes₁ 0 (joined ns) bytes′
+  puts : {ns : List Name} → allNames parts ≡ ns → {lengths₁ bytes₁ lengths′ bytes′ : List ℕ} → lengths₁ ≡ lengths → bytes₁ ≡ bytes
+      → Put lengths₁ 0 (map length ns) lengths′ → Put bytes₁ 0 (joined ns) bytes′
       → FilePut fileNameLengths kind file lengths lengths′ × FilePut fileNameBytes kind file bytes bytes′
   puts are same-lengths same-bytes p q = (
     record { put = λ all e. rw (same-fine (sym e ∙ sound), are, ← same-lengths) p },
@@ -67,7 +68,8 @@ module _ {kind : Kind} {file lengths bytes : List ℕ} (r : NamesFit kind file l
 -- ---- the walk
 
 -- one part of all is the names
-only-these : (done later : List Part) {part : Part} {ns : List Name} → allNames done ≡ [] → part ≡ nameList ns → allNames later ≡ [] → allNames (done ++ (part ∷ later)) ≡ ns
+only-these : (done later : List Part) {part : Part} {ns : List Name} → allNames done ≡ [] → part ≡ nameList ns → allNames later ≡ []
+    → allNames (done ++ (part ∷ later)) ≡ ns
 unfolding joined added
 only-these done later {part} {ns} none-before is none-after = joined-map-append namesOf done (part ∷ later) ∙ rw (none-before, is, none-after) (append-nil ns)
 
@@ -82,7 +84,8 @@ pub record NoNamesTo (kind : Kind) (file lengths₀ bytes₀ : List ℕ) (at : �
   pub same-lengths : lengths ≡ lengths₀
   pub same-bytes : bytes ≡ bytes₀
 
-pub none-at-start : {kind : Kind} {file lengths bytes : List ℕ} → FileRoom fileNameLengths kind file lengths × FileRoom fileNameBytes kind file bytes → NoNamesTo kind file lengths bytes 12 lengths bytes
+pub none-at-start : {kind : Kind} {file lengths bytes : List ℕ} → FileRoom fileNameLengths kind file lengths × FileRoom fileNameBytes kind file bytes
+    → NoNamesTo kind file lengths bytes 12 lengths bytes
 unfolding joined
 none-at-start r = record {
   names-fit = record { lengths-room = r .0; bytes-room = r .1 };
@@ -138,5 +141,6 @@ module _ {kind : Kind} {file lengths₀ bytes₀ : List ℕ} {at : ℕ} {lengths
         bytes-fit = omega (arith, ap (λ ns. length (joined ns)) all-of-them, ap length (k .same-bytes), bytes-fit (k .names-fit) (k .sound));
       }
 
-      pub found : {lengths′ bytes′ : List ℕ} → NamesPut s lengths 0 lengths′ bytes 0 bytes′ → FilePut fileNameLengths kind file lengths₀ lengths′ × FilePut fileNameBytes kind file bytes₀ bytes′
+      pub found : {lengths′ bytes′ : List ℕ} → NamesPut s lengths 0 lengths′ bytes 0 bytes′
+          → FilePut fileNameLengths kind file lengths₀ lengths′ × FilePut fileNameBytes kind file bytes₀ bytes′
       found p = puts (k .names-fit) (k .sound) all-of-them (k .same-lengths) (k .same-bytes) (p .put-lengths (this .of) (this .sound)) (p .put-bytes (this .of) (this .sound))

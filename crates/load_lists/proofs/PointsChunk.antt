@@ -18,7 +18,8 @@ use Rattle.load_lists.proofs.PointWords.{points-length}
 
 -- ---- a PNTS
 
-pub chunk-length : (kind : Kind) (b : Before) (t : ℕ) (s : List ℕ) (part : Part) → t is "PNTS" ≡ true → judge kind b t (drop 8 s) ≡ fine part → length (partPoints part) ≡ (length s - 8) / 4
+pub chunk-length : (kind : Kind) (b : Before) (t : ℕ) (s : List ℕ) (part : Part) → t is "PNTS" ≡ true → judge kind b t (drop 8 s) ≡ fine part
+    → length (partPoints part) ≡ (length s - 8) / 4
 unfolding added
 chunk-length kind b t s part e j =
     let p = holds-points kind e .each b (drop 8 s) part j in
@@ -30,7 +31,8 @@ chunk-room {kind} {t} {s} e r =
     let p = holds-points kind e .each (r .before) (drop 8 s) (r .part) (r .sound) in
     record { kind = kind; listed = p .of; sound = p .sound; fits = rw (p .part-is) at (r .fits) }
 
-pub chunk-points : {kind : Kind} {t : ℕ} {s table : List ℕ} {m : ℕ} {table′ : List ℕ} {next : ℕ} → t is "PNTS" ≡ true → PointsPut s table m table′ → next ≡ m + (length s - 8) / 4 → ChunkPut kind t s table m table′ next
+pub chunk-points : {kind : Kind} {t : ℕ} {s table : List ℕ} {m : ℕ} {table′ : List ℕ} {next : ℕ} → t is "PNTS" ≡ true → PointsPut s table m table′
+    → next ≡ m + (length s - 8) / 4 → ChunkPut kind t s table m table′ next
 unfolding added
 chunk-points {kind} {t} {s} e w n = record {
   put = λ b part j. let p = holds-points kind e .each b (drop 8 s) part j in rw (p .part-is) (w .put kind (p .of) (p .sound));

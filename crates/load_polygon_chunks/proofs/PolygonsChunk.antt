@@ -84,7 +84,8 @@ module _ {kind : Kind} {t : ℕ} {s : List ℕ} {nameCount : ℕ} {l : Latest} {
     }
 
   -- names
-  pub names-put : Holds nameList (λ b. namesBody) kind t → {l′ : Latest} → l′ ≡ withNames l nameCount → PartPut kind t s nameCount l words words vertices vertices l′
+  pub names-put : Holds nameList (λ b. namesBody) kind t → {l′ : Latest} → l′ ≡ withNames l nameCount
+      → PartPut kind t s nameCount l words words vertices vertices l′
   unfolding heldAfter after
   names-put holds same = record {
     put = λ r.
@@ -123,7 +124,8 @@ module _ {kind : Kind} {t : ℕ} {s : List ℕ} {nameCount : ℕ} {l : Latest} {
         let both = total-append (λ (p : Polygon). p .vertices) (heldPolygons (r .held)) new in
         omega (arith, rw (polygons-in r .part-is) at (r .vertices-fit), r .held-stored .stored .last-is, both, vertices-from (r .held .base) ps)
 
-    pub polygons-room : PartRoom kind t s nameCount l words vertices → body.PolygonsRoom (reader (l .points) (l .names)) (l .points) (l .base) s 8 words (l .end) vertices (l .last)
+    pub polygons-room : PartRoom kind t s nameCount l words vertices
+        → body.PolygonsRoom (reader (l .points) (l .names)) (l .points) (l .base) s 8 words (l .end) vertices (l .last)
     unfolding heldAfter after
     polygons-room r =
         let p = polygons-in r in
@@ -172,7 +174,8 @@ module _ {kind : Kind} {t : ℕ} {s : List ℕ} {nameCount : ℕ} {l : Latest} {
         let same = same-length (r .held .earlier) (r .held .latest) (ts .0) (ts .1) in
         omega (arith, rw (tags-in r .part-is) at (r .words-fit), r .held-stored .stored .start-is, same, length-append (r .held .earlier) (r .held .latest))
 
-    pub tags-room : PartRoom kind t s nameCount l words vertices → TagsRoom (whole 0 (taggingBody (latestCount l) (l .names)) 8 (drop 8 s)) (latestCount l) words (l .start)
+    pub tags-room : PartRoom kind t s nameCount l words vertices
+        → TagsRoom (whole 0 (taggingBody (latestCount l) (l .names)) 8 (drop 8 s)) (latestCount l) words (l .start)
     tags-room r = rw (latest-count r) (record { type = tags-in r .of .0; listed = tags-in r .of .1; sound = tags-in r .sound; fits = latest-fits r })
 
     pub tags-put : {words′ : List ℕ} → TagsPut (whole 0 (taggingBody (latestCount l) (l .names)) 8 (drop 8 s)) (latestCount l) words (l .start) words′

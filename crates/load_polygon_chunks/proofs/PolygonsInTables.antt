@@ -52,7 +52,8 @@ stored-none words vertices = record {
 }
 
 module _ {earlier latest : List Polygon} {start end last : ℕ} {words₀ words vertices₀ vertices : List ℕ} (w : AllStored earlier latest start end last words₀ words vertices₀ vertices) where
-  pub stored-more : {base : ℕ} (ps : List Polygon) {words′ vertices′ : List ℕ} {ends : Ends} → PolygonsStored base ps words end words′ vertices last vertices′ ends
+  pub stored-more : {base : ℕ} (ps : List Polygon) {words′ vertices′ : List ℕ} {ends : Ends}
+      → PolygonsStored base ps words end words′ vertices last vertices′ ends
       → end + length ps * polygonSize ≤ length words → last + vertexTotal ps ≤ length vertices
       → AllStored (earlier ++ latest) (map (from base) ps) end (ends .polygons) (ends .vertices) words₀ words′ vertices₀ vertices′
   stored-more {base} ps {words′} {vertices′} q words-fit vertices-fit =

@@ -117,7 +117,8 @@ pub record PolygonsTo (kind : Kind) (file : List ℕ) (nameCount : ℕ) (words�
   pub few : endOf held ≤ at
   pub held-stored : HeldStored held l words₀ words vertices₀ vertices
 
-pub begin : {kind : Kind} {file : List ℕ} {nameCount : ℕ} {words vertices : List ℕ} {l : Latest} → FilePolygonsRoom kind file nameCount words vertices → l ≡ nothingLatest
+pub begin : {kind : Kind} {file : List ℕ} {nameCount : ℕ} {words vertices : List ℕ} {l : Latest} → FilePolygonsRoom kind file nameCount words vertices
+    → l ≡ nothingLatest
     → PolygonsTo kind file nameCount words vertices words vertices 12 l
 unfolding walk.begin
 begin {words = words} {vertices} r e = record {

@@ -37,7 +37,12 @@ heldPolygons h = h .earlier ++ h .latest
 unfoldable pub heldAfter : Held → Part → Held
 heldAfter h (pointList ps) = record { before = after (h .before) (pointList ps); base = endOf h; earlier = h .earlier; latest = h .latest }
 heldAfter h (nameList ns) = record { before = after (h .before) (nameList ns); base = h .base; earlier = h .earlier; latest = h .latest }
-heldAfter h (polygonList ps n) = record { before = after (h .before) (polygonList ps n); base = h .base; earlier = heldPolygons h; latest = map (from (h .base)) ps }
+heldAfter h (polygonList ps n) = record {
+  before = after (h .before) (polygonList ps n);
+  base = h .base;
+  earlier = heldPolygons h;
+  latest = map (from (h .base)) ps;
+}
 heldAfter h (tagging t ts) = record { before = h .before; base = h .base; earlier = h .earlier; latest = tagged (h .latest) t ts }
 heldAfter h (surface s) = h
 heldAfter h skippedChunk = h

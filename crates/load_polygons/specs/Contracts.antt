@@ -53,7 +53,8 @@ pub record PolygonsStored (base : ℕ) (ps : List Polygon) (words : List ℕ) (i
 -- they do, whatever polygons the specification says that the body holds
 pub record PolygonsPut (body : Reader Part) (base : ℕ) (s : List ℕ) (start : ℕ) (words : List ℕ) (i : ℕ) (words′ vertices : List ℕ) (m : ℕ)
     (vertices′ : List ℕ) (ends : Ends) : Type 0 where
-  pub put : (ps : List Polygon) (n : ℕ) → whole 0 body start (drop start s) ≡ fine (polygonList ps n) → PolygonsStored base ps words i words′ vertices m vertices′ ends
+  pub put : (ps : List Polygon) (n : ℕ) → whole 0 body start (drop start s) ≡ fine (polygonList ps n)
+      → PolygonsStored base ps words i words′ vertices m vertices′ ends
 
 -- both, by the lists and the ends that the code is given
 abbrev pub BodyRoom : (body : Reader Part) → Lists → Ends → (s : List ℕ) (start : ℕ) (words vertices : List ℕ) → Type 0

@@ -60,7 +60,8 @@ module _ {name : Name} {s : Surface} {lengths bytes records₀ : List ℕ} {i at
     unfolding withRecord later
     step = w .so ∙ rw (part at (getD lengths i 0) bytes, pieces-at i at lengths bytes some)
 
-    onto : {records′ : List ℕ} → length records′ ≡ length records₀ → withRecord name s (pieces lengths bytes) records₀ ≡ take (i * recordSize + recordSize) records′ ++ later (drop (i * recordSize + recordSize) records′)
+    onto : {records′ : List ℕ} → length records′ ≡ length records₀
+        → withRecord name s (pieces lengths bytes) records₀ ≡ take (i * recordSize + recordSize) records′ ++ later (drop (i * recordSize + recordSize) records′)
         → StoredTo name s lengths bytes records₀ (i + 1) (at + getD lengths i 0) records′
     unfolding later
     onto kept so =
@@ -68,7 +69,8 @@ module _ {name : Name} {s : Surface} {lengths bytes records₀ : List ℕ} {i at
         record { fits = w .fits; inside = omega (arith, w .inside, sum-index i lengths some); kept = kept; so = rw e at so }
 
     module _ {b : Bool} (is : b ≡ same (take (at + getD lengths i 0 - at) (drop at bytes)) name) where
-      pub turn-same : b ≡ true → {records′ : List ℕ} → Put records (i * recordSize) (surfaceWords s) records′ → StoredTo name s lengths bytes records₀ (i + 1) (at + getD lengths i 0) records′
+      pub turn-same : b ≡ true → {records′ : List ℕ} → Put records (i * recordSize) (surfaceWords s) records′
+          → StoredTo name s lengths bytes records₀ (i + 1) (at + getD lengths i 0) records′
       turn-same t p = onto (put-length p entry-room ∙ w .kept) (rw (sym is ∙ t) at step ∙ entry-put later (i * recordSize) records refl entry-room p)
 
       pub turn-other : b ≡ false → StoredTo name s lengths bytes records₀ (i + 1) (at + getD lengths i 0) records

@@ -54,7 +54,8 @@ recordWords of ns = joined (map surfaceWords (map of ns))
 words-length : (of : Name → Surface) (ns : List Name) → length (recordWords of ns) ≡ length ns * recordSize
 words-length of ns = length-each recordSize surfaceWords (λ s. refl) (map of ns) ∙ ap (λ n. n * recordSize) (length-map ns of)
 
-words-put : (of : Name → Surface) (ns : List Name) {count : ℕ} {table table′ : List ℕ} → count ≡ length ns → table′ ≡ recordWords of ns ++ drop (count * recordSize) table
+words-put : (of : Name → Surface) (ns : List Name) {count : ℕ} {table table′ : List ℕ} → count ≡ length ns
+    → table′ ≡ recordWords of ns ++ drop (count * recordSize) table
     → Put table 0 (recordWords of ns) table′
 words-put of ns {count} many e =
     let l : 0 + length (recordWords of ns) ≡ count * recordSize = omega (arith, words-length of ns, many) in
@@ -79,7 +80,8 @@ unfolding withRecord joined
 record-words name s of [] rest = refl
 record-words name s of (n ∷ ns) rest = rw (record-words name s of ns rest) (by (same n name) (recordWords (given name s of) ns))
   where
-    by : (b : Bool) (more : List ℕ) → (if b then surfaceWords s else surfaceWords (of n)) ++ (more ++ rest) ≡ (surfaceWords (if b then s else of n) ++ more) ++ rest
+    by : (b : Bool) (more : List ℕ)
+        → (if b then surfaceWords s else surfaceWords (of n)) ++ (more ++ rest) ≡ (surfaceWords (if b then s else of n) ++ more) ++ rest
     by true more = refl
     by false more = refl
 
@@ -112,7 +114,8 @@ found done n = standing n none (joined (map surfacesOf done))
 abbrev after : Kind → List Part → Name → Surface
 after kind done n = recordFor kind (found done n)
 
-after-one : (kind : Kind) (done : List Part) (part : Part) (n : Name) → recordFor kind (standing n (found done n) (surfacesOf part)) ≡ after kind (done ++ (part ∷ [])) n
+after-one : (kind : Kind) (done : List Part) (part : Part) (n : Name)
+    → recordFor kind (standing n (found done n) (surfacesOf part)) ≡ after kind (done ++ (part ∷ [])) n
 unfolding joined
 after-one kind done part n =
     let so-far = joined (map surfacesOf done) in
@@ -146,7 +149,8 @@ pub record RecordsTo (kind : Kind) (file : List ℕ) (count : ℕ) (lengths byte
   pub fits : count * recordSize ≤ length records₀
   pub held : records ≡ recordWords (after kind done) (allNames parts) ++ drop (count * recordSize) records₀
 
-pub all-missing-first : {kind : Kind} {file : List ℕ} {count : ℕ} {lengths bytes entry records : List ℕ} → RecordsRoom kind file count lengths bytes entry → length records ≡ length entry
+pub all-missing-first : {kind : Kind} {file : List ℕ} {count : ℕ} {lengths bytes entry records : List ℕ} → RecordsRoom kind file count lengths bytes entry
+    → length records ≡ length entry
     → Put entry 0 (joined (map surfaceWords (replicate count missing))) records → RecordsTo kind file count lengths bytes records 12 records
 unfolding standing joined
 all-missing-first r kept p = record {
@@ -170,7 +174,8 @@ module _ {kind : Kind} {file : List ℕ} {count : ℕ} {lengths bytes records₀
   pub listed-room : ListedRoom (take count lengths) bytes records
   listed-room = record { inside = k .names-held .inside; fits = omega (arith, length-take count lengths, k .fits, kept) }
 
-  pub turn : {tag : ℕ} {s : List ℕ} {onto : ℕ} → ChunkHere (k .walked) tag s onto → {records′ : List ℕ} → SurfacesPut kind tag s (take count lengths) bytes records records′
+  pub turn : {tag : ℕ} {s : List ℕ} {onto : ℕ} → ChunkHere (k .walked) tag s onto → {records′ : List ℕ}
+      → SurfacesPut kind tag s (take count lengths) bytes records records′
       → RecordsTo kind file count lengths bytes records₀ onto records′
   turn t p = record {
     parts = k .parts;
@@ -187,7 +192,8 @@ module _ {kind : Kind} {file : List ℕ} {count : ℕ} {lengths bytes records₀
         ∙ ap (λ ws. ws ++ rest) (words-same (after-one kind (k .done) (t .part)) ns);
   }
 
-  pub all-stored : length file ≤ at → {entry : List ℕ} → Put entry 0 (joined (map surfaceWords (replicate count missing))) records₀ → FilePut (fileRecords kind) kind file entry records
+  pub all-stored : length file ≤ at → {entry : List ℕ} → Put entry 0 (joined (map surfaceWords (replicate count missing))) records₀
+      → FilePut (fileRecords kind) kind file entry records
   all-stored h {entry} p =
       let ns = allNames (k .parts) in
       let held : records ≡ recordWords (after kind (k .parts)) ns ++ drop (count * recordSize) entry = k .held ∙ rw (end (k .walked) h, rest-same ns (k .names-held .many) p) refl in

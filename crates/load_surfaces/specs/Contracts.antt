@@ -38,7 +38,8 @@ pub record ChunkSound (kind : Kind) (tag : ℕ) (s : List ℕ) : Type 0 where
 
 -- the records after it
 pub record SurfacesPut (kind : Kind) (tag : ℕ) (s lengths bytes records records′ : List ℕ) : Type 0 where
-  pub put : (before : Before) (part : Part) → judge kind before tag (drop 8 s) ≡ fine part → records′ ≡ withSurfaces kind (pieces lengths bytes) (surfacesOf part) records
+  pub put : (before : Before) (part : Part) → judge kind before tag (drop 8 s) ≡ fine part
+      → records′ ≡ withSurfaces kind (pieces lengths bytes) (surfacesOf part) records
 
 -- ---- the file
 

@@ -63,13 +63,15 @@ module _ (n index at : ℕ) (ws : List ℕ) where
   pub column-past : length ws - at < n → column n index (drop at ws) ≡ []
   column-past short = rw (entries-past n at ws short)
 
-pub sum-at : (n index at : ℕ) (ws : List ℕ) → 0 < n → n ≤ length ws - at → sum (column n index (drop at ws)) ≡ word index (entryAt n at ws) + sum (column n index (drop (at + n) ws))
+pub sum-at : (n index at : ℕ) (ws : List ℕ) → 0 < n → n ≤ length ws - at
+    → sum (column n index (drop at ws)) ≡ word index (entryAt n at ws) + sum (column n index (drop (at + n) ws))
 unfolding sum
 sum-at n index at ws some fits = rw (entries-at n at ws some fits)
 
 -- ---- records
 
-pub surfaces-at : (at : ℕ) (ws : List ℕ) → recordSize ≤ length ws - at → meshSurfaces (drop at ws) ≡ surfaceFrom (entryAt recordSize at ws) ∷ meshSurfaces (drop (at + recordSize) ws)
+pub surfaces-at : (at : ℕ) (ws : List ℕ) → recordSize ≤ length ws - at
+    → meshSurfaces (drop at ws) ≡ surfaceFrom (entryAt recordSize at ws) ∷ meshSurfaces (drop (at + recordSize) ws)
 unfolding meshSurfaces
 surfaces-at at ws fits = rw (entries-at recordSize at ws (omega arith) fits)
 

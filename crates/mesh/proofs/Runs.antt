@@ -110,7 +110,8 @@ polygons-split j ws vs fits room =
 
 -- ---- the first run of what is left, by the places where it begins and ends
 
-first-run : (ps : List Polygon) (p : Polygon) (later : List Polygon) (m : ℕ) → ps ≡ p ∷ later → leading (p .kind) (map kindOf later) ≡ m → runs ps ≡ take (suc m) ps ∷ runs (drop (suc m) ps)
+first-run : (ps : List Polygon) (p : Polygon) (later : List Polygon) (m : ℕ) → ps ≡ p ∷ later → leading (p .kind) (map kindOf later) ≡ m
+    → runs ps ≡ take (suc m) ps ∷ runs (drop (suc m) ps)
 first-run ps p later m are same = rw (are, ← same) (runs-first p later)
 
 module _ (ws vs : List ℕ) (at first end : ℕ) (fits : polygonSize ≤ length ws - at)

@@ -1,11 +1,11 @@
 -- The answer of `read`, field by field, as the specification's.
 use Prim.Native.Nat.{ℕ}
-use Rattle.format.specs.Answer.{Answer as Answered, noNeeds}
-use Rattle.read_answer.specs.declared.Answer.{Answer}
+use Rattle.format.specs.Answer.{Answer, noNeeds}
+use Rattle.read_answer.specs.declared.ReadAnswer.{ReadAnswer}
 use Rattle.validate.specs.declared.counts.Totals.{Totals}
 use Rattle.validate.specs.Contracts.{needsIn}
 
-abbrev pub answerAs : Answer → Answered
+abbrev pub answerAs : ReadAnswer → Answer
 answerAs a = record {
   number = a .number;
   place = a .place;
@@ -14,8 +14,8 @@ answerAs a = record {
   details = a .details;
 }
 
-abbrev pub refusedWith : (number place : ℕ) → Answered
+abbrev pub refusedWith : (number place : ℕ) → Answer
 refusedWith number place = record { number = number; place = place; needs = noNeeds; skipped = 0; details = 0 }
 
-abbrev pub withCounts : (number : ℕ) → Totals → Answered
+abbrev pub withCounts : (number : ℕ) → Totals → Answer
 withCounts number t = record { number = number; place = 0; needs = needsIn t; skipped = t .skipped; details = t .details }

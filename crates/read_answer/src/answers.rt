@@ -2,7 +2,7 @@
 ghost use mathlib.Core.Path.{_≡_};
 ghost use Rattle.format.specs.Refusals.{numberOf};
 ghost use Rattle.read_answer.specs.Reads.{answerAs, refusedWith, withCounts};
-use crate::Answer;
+use crate::ReadAnswer;
 use format::Fault;
 use validate::counts::Totals;
 use wire::Refusal;
@@ -32,11 +32,11 @@ fn number_of(why: Fault) -> u32
 }
 
 // A refusal other than 16 tells no needs.
-pub fn refused(f: Refusal) -> Answer
+pub fn refused(f: Refusal) -> ReadAnswer
     ensures { λ r. ⌜ answerAs r ≡ refusedWith (numberOf (f .why)) (f .at) ⌝ }
 {
     let why = f.why;
-    Answer {
+    ReadAnswer {
         number: number_of(why),
         place: f.at,
         points: 0,
@@ -50,10 +50,10 @@ pub fn refused(f: Refusal) -> Answer
 }
 
 // Accepted, or no room: the needs and counts are full, and the place is 0.
-pub fn with_counts(number: u32, t: Totals) -> Answer
+pub fn with_counts(number: u32, t: Totals) -> ReadAnswer
     ensures { λ r. ⌜ answerAs r ≡ withCounts number t ⌝ }
 {
-    Answer {
+    ReadAnswer {
         number,
         place: 0,
         points: t.points,

@@ -18,7 +18,7 @@ use Rattle.format.specs.Answer.{fits, answer, tablesAfter, Reads}
 use Rattle.format.proofs.Verdicts.{FineWith, fine-with, stopped, then-fine, same-fine}
 use Rattle.format.proofs.ChunkWalk.{parts-fine, within-limit}
 use Rattle.wire.specs.declared.Refusal.{Refusal}
-use Rattle.read_answer.specs.declared.Answer.{Answer}
+use Rattle.read_answer.specs.declared.ReadAnswer.{ReadAnswer}
 use Rattle.validate.specs.declared.counts.Totals.{Totals}
 use Rattle.validate.specs.declared.FileResult.{FileResult}
 use Rattle.validate.specs.Contracts.{totalsOf, needsIn, FileJudged}
@@ -28,8 +28,9 @@ use Rattle.read_answer.specs.Reads.{answerAs, refusedWith, withCounts}
 abbrev counts : Kind × List PartAt → Kind × Totals
 counts f = (f .0, totalsOf (f .0) (partsOf (f .1)))
 
-module _ {file : List ℕ} {t : Tables} {a : Answer} where
-  pub read-refused : {f : Refusal} → all byte file ≡ true → FileJudged file (FileResult.Refused f) → answerAs a ≡ refusedWith (numberOf (f .why)) (f .at) → Reads file t (answerAs a) t
+module _ {file : List ℕ} {t : Tables} {a : ReadAnswer} where
+  pub read-refused : {f : Refusal} → all byte file ≡ true → FileJudged file (FileResult.Refused f) → answerAs a ≡ refusedWith (numberOf (f .why)) (f .at)
+      → Reads file t (answerAs a) t
   unfolding rules outcome answer tablesAfter
   read-refused bytes w e = let j = stopped (judged file) counts (w .is) in record { bytes = bytes; answers = e ∙ rw j; leaves = rw j }
 
@@ -79,7 +80,7 @@ module _ {file : List ℕ} {kind : Kind} {totals : Totals} (w : FileJudged file 
   unfolding totalsOf needs meshOf
   tables-room {t} e room = record { parts = parts; sound = walked; few = few; names-are = ap (λ z. z .names) totals-are; roomy = fits-is t e ∙ room }
 
-  module _ {t : Tables} {a : Answer} {b : Bool} (bytes : all byte file ≡ true) (e : b ≡ fits (needsIn totals) t) where
+  module _ {t : Tables} {a : ReadAnswer} {b : Bool} (bytes : all byte file ≡ true) (e : b ≡ fits (needsIn totals) t) where
     pub read-accepted : {t′ : Tables} → b ≡ true → TablesPut kind file t t′ → answerAs a ≡ withCounts 0 totals → Reads file t (answerAs a) t′
     unfolding answer tablesAfter totalsOf
     read-accepted room p says =

@@ -4,7 +4,7 @@ ghost use Rattle.format.specs.Mesh.{lent};
 ghost use Rattle.format.specs.Answer.{Reads};
 ghost use Rattle.read_answer.specs.Reads.{answerAs};
 use load::fill_tables;
-use read_answer::Answer;
+use read_answer::ReadAnswer;
 use read_answer::answers::refused;
 use read_answer::answers::with_counts;
 use read_answer::room::has_room;
@@ -20,7 +20,7 @@ pub fn read(
     names: &mut [u32],
     name_bytes: &mut [u8],
     records: &mut [u32],
-) -> Answer
+) -> ReadAnswer
     ensures { λ r. ⌜ Reads (now (file .entry)) (lent (now (points .entry)) (now (polygons .entry)) (now (vertices .entry)) (now (names .entry)) (now («name_bytes» .entry)) (now (records .entry))) (answerAs r) (lent (now (points .exit)) (now (polygons .exit)) (now (vertices .exit)) (now (names .exit)) (now («name_bytes» .exit)) (now (records .exit))) ⌝ }
 {
     match validate(file) {

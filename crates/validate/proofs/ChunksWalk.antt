@@ -38,7 +38,8 @@ module _ (kind : Kind) (b : Before) (place tag : ℕ) (body : List ℕ) (more : 
   unfolding located _andThen_
   walk-on {part} e = rw (parts-chunk kind b place tag body more, e) (then-then (walkParts kind (after b part) (place + sizeOf 4 (length body)) more) (λ parts. part ∷ parts) f)
 
-  walk-stops : {why : Fault} {at : ℕ} → judge kind b tag body ≡ fault why at → (walkParts kind b place (chunk tag body more) andThen λ parts. fine (f parts)) ≡ fault why (placeOf place at)
+  walk-stops : {why : Fault} {at : ℕ} → judge kind b tag body ≡ fault why at
+      → (walkParts kind b place (chunk tag body more) andThen λ parts. fine (f parts)) ≡ fault why (placeOf place at)
   unfolding located _andThen_
   walk-stops e = rw (parts-chunk kind b place tag body more, e)
 

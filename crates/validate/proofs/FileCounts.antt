@@ -67,7 +67,8 @@ record CountedFrom (parts : List Part) (base end : ℕ) (latest : List Polygon) 
   skipped : t′ .skipped ≡ t .skipped + sum (map skippedOf parts)
   details : t′ .details ≡ t .details + sum (map detailsOf parts)
 
-counted-from : (parts : List Part) (seen : Seen) (base end : ℕ) (latest : List Polygon) → CountedFrom parts base end latest (seen .totals) (seenAfter seen parts .totals)
+counted-from : (parts : List Part) (seen : Seen) (base end : ℕ) (latest : List Polygon)
+    → CountedFrom parts base end latest (seen .totals) (seenAfter seen parts .totals)
 unfolding seenAfter countedOf sizesOf polygonsListed added polygonsIn joined sum
 counted-from [] seen base end latest = search finding
 counted-from (pointList ps ∷ parts) seen base end latest =
@@ -105,5 +106,6 @@ totals-are kind parts =
     let w = counted-from parts nothingSeen 0 0 [] in
     same _ _ (omega arith) (omega arith) (omega arith) (omega arith) (omega arith) (omega arith) (omega arith)
   where
-    same : (t t′ : Totals) → t .points ≡ t′ .points → t .polygons ≡ t′ .polygons → t .vertices ≡ t′ .vertices → t .names ≡ t′ .names → t .«name_bytes» ≡ t′ .«name_bytes» → t .skipped ≡ t′ .skipped → t .details ≡ t′ .details → t ≡ t′
+    same : (t t′ : Totals) → t .points ≡ t′ .points → t .polygons ≡ t′ .polygons → t .vertices ≡ t′ .vertices → t .names ≡ t′ .names
+        → t .«name_bytes» ≡ t′ .«name_bytes» → t .skipped ≡ t′ .skipped → t .details ≡ t′ .details → t ≡ t′
     same t t′ p g v n b s d = λ i. record { points = p i; polygons = g i; vertices = v i; names = n i; «name_bytes» = b i; skipped = s i; details = d i }

@@ -30,8 +30,24 @@ lengthsAfter l Counted.Nothing = l
 lengthsAfter l Counted.Skipped = l
 
 abbrev pub totalsWith : Totals → Counted → Totals
-totalsWith t (Counted.Points n) = record { points = t .points + n; polygons = t .polygons; vertices = t .vertices; names = t .names; «name_bytes» = t .«name_bytes»; skipped = t .skipped; details = t .details }
-totalsWith t (Counted.Names n b) = record { points = t .points; polygons = t .polygons; vertices = t .vertices; names = t .names + n; «name_bytes» = t .«name_bytes» + b; skipped = t .skipped; details = t .details }
+totalsWith t (Counted.Points n) = record {
+  points = t .points + n;
+  polygons = t .polygons;
+  vertices = t .vertices;
+  names = t .names;
+  «name_bytes» = t .«name_bytes»;
+  skipped = t .skipped;
+  details = t .details;
+}
+totalsWith t (Counted.Names n b) = record {
+  points = t .points;
+  polygons = t .polygons;
+  vertices = t .vertices;
+  names = t .names + n;
+  «name_bytes» = t .«name_bytes» + b;
+  skipped = t .skipped;
+  details = t .details;
+}
 totalsWith t (Counted.Polygons z) = record {
   points = t .points;
   polygons = t .polygons + z .polygons;
@@ -42,7 +58,15 @@ totalsWith t (Counted.Polygons z) = record {
   details = t .details + z .details;
 }
 totalsWith t Counted.Nothing = t
-totalsWith t Counted.Skipped = record { points = t .points; polygons = t .polygons; vertices = t .vertices; names = t .names; «name_bytes» = t .«name_bytes»; skipped = t .skipped + 1; details = t .details }
+totalsWith t Counted.Skipped = record {
+  points = t .points;
+  polygons = t .polygons;
+  vertices = t .vertices;
+  names = t .names;
+  «name_bytes» = t .«name_bytes»;
+  skipped = t .skipped + 1;
+  details = t .details;
+}
 
 abbrev pub seenWith : Seen → Counted → Seen
 seenWith seen part = record { lengths = lengthsAfter (seen .lengths) part; totals = totalsWith (seen .totals) part }

@@ -69,7 +69,8 @@ module _ {B : Type 0} (f : B → Counted) (h : Part → B) {r : Reader Part} (a 
       by (fault why p) e = refl
 
 -- what must come earlier is there
-pub in-order : {B : Type 0} {f : B → Counted} {h : Part → B} {r : Reader Part} → Adds f h r → {s : List ℕ} {v : Verdict B} {answer : Judgement} → Judged r h s v → judgedAs answer ≡ (v andThen λ y. fine (f y)) → CountsOf (when true read r) s answer
+pub in-order : {B : Type 0} {f : B → Counted} {h : Part → B} {r : Reader Part} → Adds f h r → {s : List ℕ} {v : Verdict B} {answer : Judgement} → Judged r h s v
+    → judgedAs answer ≡ (v andThen λ y. fine (f y)) → CountsOf (when true read r) s answer
 unfolding when_read_
 in-order {f} {h} a {s} j says = record { is = says ∙ ap (λ v. v andThen λ y. fine (f y)) (j .is) ∙ counts-in f h a (drop 8 s) }
 

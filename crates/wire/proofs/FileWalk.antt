@@ -27,7 +27,8 @@ pub record WalkedTo (kind : Kind) (file : List ℕ) (parts done : List Part) (at
   pub before : Before
   pub judged : walkParts kind before at (chunks (drop at file)) ≡ fine more
 
-unfoldable pub begin : {kind : Kind} {file : List ℕ} {parts : List Part} → walkParts kind start 12 (chunks (drop 12 file)) ≡ fine parts → WalkedTo kind file parts [] 12
+unfoldable pub begin : {kind : Kind} {file : List ℕ} {parts : List Part} → walkParts kind start 12 (chunks (drop 12 file)) ≡ fine parts
+    → WalkedTo kind file parts [] 12
 begin {parts = parts} e = record { more = parts; all = refl; before = start; judged = e }
 
 module _ {kind : Kind} {file : List ℕ} {parts done : List Part} {at : ℕ} (w : WalkedTo kind file parts done at) where

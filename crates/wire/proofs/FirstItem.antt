@@ -13,6 +13,7 @@ unfolding whole _>>=_ _andThen_
 after-item k w j = record { is = rw (exactly w) (j .is) }
 
 -- whatever stands from a place on, beyond the end too
-pub rest-unjudged : {A B C : Type 0} {header : ℕ} (a : A) (k : A → B) (h : B → C) {s : List ℕ} {at : ℕ} → JudgedAt header at (unjudged a >>= (λ x. give (k x))) h s (fine (h (k a)))
+pub rest-unjudged : {A B C : Type 0} {header : ℕ} (a : A) (k : A → B) (h : B → C) {s : List ℕ} {at : ℕ}
+    → JudgedAt header at (unjudged a >>= (λ x. give (k x))) h s (fine (h (k a)))
 unfolding unjudged whole _>>=_ _andThen_
 rest-unjudged a k h = record { is = refl }

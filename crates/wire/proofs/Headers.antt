@@ -35,7 +35,8 @@ four-bytes s at h =
     let g : at + 3 ≡ suc (suc (suc at)) = omega arith in
     rw (e, f, g, drop-cons s at 0 (omega arith), drop-cons s (suc at) 0 (omega arith), drop-cons s (suc (suc at)) 0 (omega arith), drop-cons s (suc (suc (suc at))) 0 (omega arith))
 
-pub tags-are : (s : List ℕ) (at : ℕ) {a b c d : Bool} → at + 4 ≤ length s → a ≡ between 32 126 (getD s at 0) → b ≡ between 32 126 (getD s (at + 1) 0) → c ≡ between 32 126 (getD s (at + 2) 0) → d ≡ between 32 126 (getD s (at + 3) 0)
+pub tags-are : (s : List ℕ) (at : ℕ) {a b c d : Bool} → at + 4 ≤ length s → a ≡ between 32 126 (getD s at 0) → b ≡ between 32 126 (getD s (at + 1) 0)
+    → c ≡ between 32 126 (getD s (at + 2) 0) → d ≡ between 32 126 (getD s (at + 3) 0)
     → (((a && b) && c) && d) ≡ all (between 32 126) (take 4 (drop at s))
 unfolding all
 tags-are s at {a} {b} {c} {d} h p q r t = and-four a b c d ∙ rw (p, q, r, t, four-bytes s at h)
@@ -120,7 +121,8 @@ length-is width s at is = rw (drop-drop 4 at s) (sym is)
 
 -- ---- a sub-chunk whose body is judged, as a prefix of the same bytes
 
-judged : {A B : Type 0} (h : A → B) (v : Verdict A) {answer : Verdict B} (left : List ℕ) (p : ℕ) → answer ≡ (v andThen λ a. fine (h a)) → keep h (v andThen λ a. give a p left) ≡ (answer andThen λ b. give b p left)
+judged : {A B : Type 0} (h : A → B) (v : Verdict A) {answer : Verdict B} (left : List ℕ) (p : ℕ) → answer ≡ (v andThen λ a. fine (h a))
+    → keep h (v andThen λ a. give a p left) ≡ (answer andThen λ b. give b p left)
 unfolding _andThen_
 judged h (fine a) left p e = rw e
 judged h (fault why q) left p e = rw e
@@ -131,7 +133,8 @@ module _ {A B : Type 0} (inside : ℕ → Reader A) {h : A → B} {s : List ℕ}
   sub-bad w = record { is = rw (exactly (w .reads .says)) }
 
   module _ {tag end : ℕ} {next : Cursor} (w : HeaderAt 2 s at (Header.Got tag end next)) where
-    sub-says : {answer : Verdict B} → JudgedAt at (at + 6) (inside tag) h (take end s) answer → Says (sub inside) h s at (answer andThen λ b. give b (next .at) (drop (next .at) s))
+    sub-says : {answer : Verdict B} → JudgedAt at (at + 6) (inside tag) h (take end s) answer
+        → Says (sub inside) h s at (answer andThen λ b. give b (next .at) (drop (next .at) s))
     unfolding sub _andThen_
     sub-says j = record { is = rw (exactly (w .reads .says)) (sym (judged h (whole at (inside tag) (at + 6) (drop (at + 6) (take end s))) (drop (next .at) s) (next .at) (j .is))) }
 

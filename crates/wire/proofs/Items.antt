@@ -32,7 +32,8 @@ u2-small {s} {at} {v} {next} bytes w = by (ltb (length s - at) 2) refl
         omega (arith, is, two-is s at there, bytes at .fits, bytes (at + 1) .fits)
 
 -- a name and its terminator stand in the slice
-pub inside : {s : List ℕ} {at n : ℕ} {next : Cursor} → TextAt s at (Text.Got n next) → (at + n < next .at) × (next .at ≤ length s) × (length (take n (drop at s)) ≡ n)
+pub inside : {s : List ℕ} {at n : ℕ} {next : Cursor} → TextAt s at (Text.Got n next)
+    → (at + n < next .at) × (next .at ≤ length s) × (length (take n (drop at s)) ≡ n)
 inside {s} {at} {n} r =
     let k = length-take n (drop at s) in
     let l = length-drop at s in

@@ -9,7 +9,8 @@ use Rattle.format.specs.Contracts.{Says, Succeeds}
 use Rattle.format.proofs.ReaderSteps.{stopped}
 use Rattle.format.proofs.Inversion.{sound-then, sound-not}
 
-pub never : {A B : Type 0} {r : Reader A} {h : A → B} {s : List ℕ} {at : ℕ} {why : Fault} {p : ℕ} → Succeeds (r at (drop at s)) → Says r h s at (fault why p) → ⊥
+pub never : {A B : Type 0} {r : Reader A} {h : A → B} {s : List ℕ} {at : ℕ} {why : Fault} {p : ℕ} → Succeeds (r at (drop at s)) → Says r h s at (fault why p)
+    → ⊥
 never w v = sound-not w (stopped v)
 
 pub sound-item : {A : Type 0} (r : Reader A) (why : Fault) (ok : A → Bool) (at : ℕ) (t : List ℕ) → Succeeds ((r or why unless ok) at t) → Succeeds (r at t)

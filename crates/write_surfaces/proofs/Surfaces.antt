@@ -141,7 +141,8 @@ module _ {ns bs ws t t′ : List ℕ} {at next i from entry : ℕ} (w : SurfaceW
         bytes-put.room (w .fills) one,
       )
 
-      pub turn : {t″ : List ℕ} {last : ℕ} → Wrote t′ next (surfaceChunk name (surfaceFrom words)) t″ last → SurfaceWalk ns bs ws t at t″ last (i + 1) (from + n) (entry + recordSize)
+      pub turn : {t″ : List ℕ} {last : ℕ} → Wrote t′ next (surfaceChunk name (surfaceFrom words)) t″ last
+          → SurfaceWalk ns bs ws t at t″ last (i + 1) (from + n) (entry + recordSize)
       turn v = record {
         agree = omega (arith, w .agree, sum-index i ns inside);
         each = w .each;

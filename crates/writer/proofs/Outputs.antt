@@ -13,12 +13,12 @@ use Rattle.format.specs.Refusals.{noRoom, notMesh, tooLong}
 use Rattle.format.specs.Mesh.{Tables}
 use Rattle.format.specs.Canonical.{canonical}
 use Rattle.format.specs.Written.{meshFrom, isMesh, Written, says, written, outputAfter, Writes}
-use Rattle.writer.specs.declared.Answer.{Answer}
+use Rattle.writer.specs.declared.WriteAnswer.{WriteAnswer}
 use Rattle.writer.specs.Writes.{answerAs}
 use Rattle.output.specs.Outputs.{Wrote}
 use Rattle.writer.specs.Contracts.{OutputRoom}
 
-module _ (t : Tables) (out : List ℕ) {a : Answer} (is : answerAs a ≡ written t (length out)) where
+module _ (t : Tables) (out : List ℕ) {a : WriteAnswer} (is : answerAs a ≡ written t (length out)) where
   abbrev file : List ℕ
   file = canonical (meshFrom t)
 
@@ -34,7 +34,8 @@ module _ (t : Tables) (out : List ℕ) {a : Answer} (is : answerAs a ≡ written
     unfolding written
     accepted = let r = go (isMesh t) (ltb fileLimit (length file)) (ltb (length out) (length file)) is in record { mesh = r .0; long = r .2; room = omega (arith, ltb-false (length out) (length file) (r .1), r .2) }
       where
-        go : (mesh long short : Bool) → answerAs a ≡ (if not mesh then says notMesh 0 else if long then says tooLong 0 else if short then says noRoom (length file) else says 0 (length file))
+        go : (mesh long short : Bool)
+            → answerAs a ≡ (if not mesh then says notMesh 0 else if long then says tooLong 0 else if short then says noRoom (length file) else says 0 (length file))
             → (mesh ≡ true) × (short ≡ false) × (a .length ≡ length file)
         go false long short e = absurd (omega (arith, zero, ap (λ (w : Written). w .number) e))
         go true true short e = absurd (omega (arith, zero, ap (λ (w : Written). w .number) e))

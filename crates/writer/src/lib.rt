@@ -21,16 +21,16 @@ use write_surfaces::put_surfaces;
 pub mod chunks;
 
 // A number of document 01, the place 0, and a length: bytes written on 0, bytes needed on 16, else 0.
-pub struct Answer {
+pub struct WriteAnswer {
     pub number: u32,
     pub place: usize,
     pub length: usize,
 }
 
-fn says(number: u32, length: usize) -> Answer
+fn says(number: u32, length: usize) -> WriteAnswer
     ensures { λ r. ⌜ r ≡ record { number = number; place = 0; length = length } ⌝ }
 {
-    Answer {
+    WriteAnswer {
         number,
         place: 0,
         length,
@@ -46,7 +46,7 @@ pub fn answer_for(
     name_bytes: &[u8],
     records: &[u32],
     room: usize,
-) -> Answer
+) -> WriteAnswer
     ensures { λ r. ⌜ answerAs r ≡ written (lent (now (points .entry)) (now (polygons .entry)) (now (vertices .entry)) (now (names .entry)) (now («name_bytes» .entry)) (now (records .entry))) room ⌝ }
 {
     if !is_mesh(points, polygons, vertices, names, name_bytes, records) {
@@ -93,7 +93,7 @@ pub fn write(
     name_bytes: &[u8],
     records: &[u32],
     out: &mut [u8],
-) -> Answer
+) -> WriteAnswer
     ensures { λ r. ⌜ Writes (lent (now (points .entry)) (now (polygons .entry)) (now (vertices .entry)) (now (names .entry)) (now («name_bytes» .entry)) (now (records .entry))) (now (out .entry)) (answerAs r) (now (out .exit)) ⌝ }
 {
     let answer = answer_for(

@@ -25,7 +25,8 @@ vertex-count-requires c κs =
     omega (arith, run-few w (e .before .loop-test .taken) (e .run-end .ensures), w .lent .few)
 
 -- the vertices of the run are there
-there : (n : tie.After-vertex-count Inv-loop μ-loop) → n .before .before .before .before .loop .first + n .vertex-count .result ≤ length (now (n .before .before .before .before .before .before .before .before .args .vertices))
+there : (n : tie.After-vertex-count Inv-loop μ-loop)
+    → n .before .before .before .before .loop .first + n .vertex-count .result ≤ length (now (n .before .before .before .before .before .before .before .before .args .vertices))
 there n =
     let e = n .before .before in
     room (e .before .before .loop .inv .walk) (e .before .loop-test .taken) (e .run-end .ensures) (n .vertex-count .ensures)

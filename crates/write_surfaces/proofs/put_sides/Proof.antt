@@ -9,7 +9,8 @@ use Rattle.output.proofs.Chunks.{Chunk, head-room, body-room, unpadded, chunk-i
 use Rattle.write_surfaces.proofs.put_sides.Statement.{statement}
 use Rattle.write_surfaces.proofs.put_sides.Tie as tie
 
-whole : (s : tie.Start) → Chunk (chunkBytes 2 "SIDE" (bytes 2 (s .args .sides))) 2 (tagNumber "SIDE") 2 (bytes 2 (s .args .sides)) (now (s .args .out)) (s .args .at)
+whole : (s : tie.Start)
+    → Chunk (chunkBytes 2 "SIDE" (bytes 2 (s .args .sides))) 2 (tagNumber "SIDE") 2 (bytes 2 (s .args .sides)) (now (s .args .out)) (s .args .at)
 unfolding bytes number
 whole s = record { is = rw (length-bytes 2 (s .args .sides)) at (chunk-is 2 (tagNumber "SIDE") "SIDE" (bytes 2 (s .args .sides)) refl); fits = s .pre }
 

@@ -40,7 +40,8 @@ Body x left out next = let s = start x in PartsLeft (surfaceBytes (name s) (surf
 opened : (x : tie.Else1) → let s = start x in Body x (stringBytes (name s) ∷ stringBytes [] ∷ valueBytes (surface s) ∷ []) (now (s .args .out)) (s .args .at + 8)
 opened x = let s = start x in begin (surface-parts (name s) (surface s)) (first-room (whole x))
 
-named : (u : tie.After-put-string) → Body (at-string u) (stringBytes [] ∷ valueBytes (surface (start (at-string u))) ∷ []) (u .put-string .last .0) (u .put-string .result)
+named : (u : tie.After-put-string)
+    → Body (at-string u) (stringBytes [] ∷ valueBytes (surface (start (at-string u))) ∷ []) (u .put-string .last .0) (u .put-string .result)
 named u = turn (opened (at-string u)) (u .put-string .ensures)
 
 sourced : (v : tie.After-put-u2) → Body (at-source v) (valueBytes (surface (start (at-source v))) ∷ []) (v .put-u2 .last .0) (v .put-u2 .result)

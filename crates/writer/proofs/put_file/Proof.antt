@@ -38,7 +38,8 @@ at-runs u = at-points (u .before .before .before .before)
 abbrev After : tie.Start → (k : ℕ) → List ℕ → ℕ → Type 0
 After s k out next = PartsLeft (canonical (meshFrom (tables s))) (drop k (fileParts (tables s) (s .args .n))) (now (s .args .out)) 0 out next
 
-facts-of : (s : tie.Start) → MeshFacts (now (s .args .points)) (now (s .args .polygons)) (now (s .args .vertices)) (now (s .args .names)) (now (s .args .name-bytes)) (now (s .args .records))
+facts-of : (s : tie.Start)
+    → MeshFacts (now (s .args .points)) (now (s .args .polygons)) (now (s .args .vertices)) (now (s .args .names)) (now (s .args .name-bytes)) (now (s .args .records))
 facts-of s = mesh-facts _ _ _ _ _ _ (s .pre .mesh)
 
 started : (s : tie.Start) → After s 0 (now (s .args .out)) 0

@@ -27,14 +27,17 @@ file x = x .before .before .before .before .before .before .before .before .args
 abbrev place : tie.After-tag Inv-loop μ-loop → ℕ
 place x = x .before .before .before .before .loop .at
 
-header : (x : tie.After-tag Inv-loop μ-loop) → HeaderAt 4 (file x) (place x) (Header.Got (x .tag .given .0 .0) (x .tag .given .0 .1 .0) (x .tag .given .0 .1 .1 .0))
+header : (x : tie.After-tag Inv-loop μ-loop)
+    → HeaderAt 4 (file x) (place x) (Header.Got (x .tag .given .0 .0) (x .tag .given .0 .1 .0) (x .tag .given .0 .1 .1 .0))
 header x = rw (x .tag .given .1) at (x .before .before .chunk-at .ensures)
 
-this : (x : tie.After-tag Inv-loop μ-loop) → ChunkHere (x .before .before .before .before .loop .inv .walked) (x .tag .given .0 .0) (take (x .tag .given .0 .1 .0 - place x) (drop (place x) (file x))) (x .tag .given .0 .1 .1 .0 .at)
+this : (x : tie.After-tag Inv-loop μ-loop)
+    → ChunkHere (x .before .before .before .before .loop .inv .walked) (x .tag .given .0 .0) (take (x .tag .given .0 .1 .0 - place x) (drop (place x) (file x))) (x .tag .given .0 .1 .1 .0 .at)
 this x = chunk-here (x .before .before .before .before .loop .inv .walked) (header x)
 
 -- it holds the names
-names-here : (t : tie.Then1 Inv-loop μ-loop) → namesTag (t .before .before .before .before .before .before .before .before .before .before .before .args .kind) (t .before .before .before .tag .given .0 .0) ≡ true
+names-here : (t : tie.Then1 Inv-loop μ-loop)
+    → namesTag (t .before .before .before .before .before .before .before .before .before .before .before .args .kind) (t .before .before .before .tag .given .0 .0) ≡ true
 names-here t = sym (t .before .holds-names .ensures) ∙ t .if1 .taken
 
 loop-holds : tie.Need-loop-holds Inv-loop μ-loop

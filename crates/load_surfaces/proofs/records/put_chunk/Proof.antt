@@ -9,7 +9,8 @@ use Rattle.load_surfaces.proofs.records.put_chunk.Statement.{statement}
 use Rattle.load_surfaces.proofs.records.put_chunk.Tie as tie
 
 -- the name of a SURF
-text : (x : tie.After-n) → TextAt (x .before .before .before .before .before .before .before .before .args .s .now) 8 (Text.Got (x .n .given .0 .0) (x .n .given .0 .1 .0))
+text : (x : tie.After-n)
+    → TextAt (x .before .before .before .before .before .before .before .before .args .s .now) 8 (Text.Got (x .n .given .0 .0) (x .n .given .0 .1 .0))
 text x = rw (x .n .given .1) at (x .before .before .string .ensures)
 
 returns : tie.Need-returns

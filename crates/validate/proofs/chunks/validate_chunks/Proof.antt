@@ -17,7 +17,8 @@ abbrev μ-loop : tie.MeasureT-loop
 μ-loop file kind at₀ seen₀ at seen = length file - at
 
 -- the chunk of this turn
-header : (c : tie.After-tag Inv-loop μ-loop) → HeaderAt 4 (c .before .before .before .before .before .before .before .args .file .now) (c .before .before .before .before .loop .at) (Header.Got (c .tag .given .0 .0) (c .tag .given .0 .1 .0) (c .tag .given .0 .1 .1 .0))
+header : (c : tie.After-tag Inv-loop μ-loop)
+    → HeaderAt 4 (c .before .before .before .before .before .before .before .args .file .now) (c .before .before .before .before .loop .at) (Header.Got (c .tag .given .0 .0) (c .tag .given .0 .1 .0) (c .tag .given .0 .1 .1 .0))
 header c = rw (c .tag .given .1) at (c .before .before .chunk-at .ensures)
 
 loop-holds : tie.Need-loop-holds Inv-loop μ-loop
