@@ -9,6 +9,7 @@ ghost use Rattle.good_mesh.specs.Tests.{goodName};
 use words::same_bytes;
 use words::wide;
 
+// A zero byte would end the name where it is written.
 fn no_zero(name: &[u8]) -> bool
     ensures { λ r. ⌜ r ≡ noZero (now (name .entry)) ⌝ }
 {

@@ -22,6 +22,7 @@ fn is_missing(words: &[u32]) -> bool
     same_words(words, &missing)
 }
 
+// A record that is not defined is not written, so that it has to be what reading gives a name with no SURF.
 fn good_record(words: &[u32]) -> bool
     requires { ⌜ length (now words) ≡ recordSize ⌝ }
     ensures { λ r. ⌜ r ≡ goodSurface (surfaceFrom (now (words .entry))) ⌝ }
@@ -34,6 +35,7 @@ fn good_record(words: &[u32]) -> bool
         & ((defined == 1) | is_missing(words))
 }
 
+// Each record by itself. That there is one for each name is asked before.
 pub fn good_records(records: &[u32]) -> bool
     ensures { λ r. ⌜ r ≡ all goodSurface (meshSurfaces (now (records .entry))) ⌝ }
 {

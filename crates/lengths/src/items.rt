@@ -11,6 +11,7 @@ ghost use Rattle.format.specs.Contracts.{total};
 ghost use Rattle.lengths.specs.Sizes.{Counted, unlessNone};
 use words::wide;
 
+// The shortest VX.
 pub fn vx_length(n: usize) -> usize
     ensures { λ r. ⌜ Counted r (length (vxBytes n)) 4 ⌝ }
 {
@@ -41,6 +42,7 @@ pub fn unless_empty(count: usize, n: usize) -> usize
     if count == 0 { 0 } else { chunk_length(n) }
 }
 
+// Vertices, a VX each.
 pub fn vertices_length(vertices: &[u32]) -> usize
     ensures { λ r. ⌜ Counted r (total vxBytes (now (vertices .entry))) (4 * length (now (vertices .entry))) ⌝ }
 {

@@ -17,6 +17,7 @@ use mesh::polygons::run_end;
 use mesh::polygons::surface;
 use mesh::polygons::vertex_count;
 
+// A polygon without a surface has no pair.
 fn pair_length(i: usize, surface: u32) -> usize
     ensures { λ r. ⌜ Counted r (length (pairOf i surface)) 6 ⌝ }
 {
@@ -48,6 +49,7 @@ pub fn run_length(run: &[u32], vertices: &[u32]) -> usize
     unless_empty(count, 4 + 2 * count + vertices_length(vertices)) + unless_empty(pairs, 4 + pairs)
 }
 
+// All runs, each by its part of the two tables.
 pub fn runs_length(polygons: &[u32], vertices: &[u32]) -> usize
     requires { ⌜ PolygonsLent (now polygons) (now vertices) ⌝ }
     ensures { λ r. ⌜ Counted r (total encoded (joined (map runChunks (runs (meshPolygons (now (polygons .entry)) (now (vertices .entry))))))) (12 * length (now (polygons .entry)) + 4 * length (now (vertices .entry))) ⌝ }

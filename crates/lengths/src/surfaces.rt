@@ -24,6 +24,7 @@ fn surface_length(defined: u32, name: usize) -> usize
     }
 }
 
+// The SURF chunks of all names whose record is defined.
 pub fn surfaces_length(lengths: &[u32], records: &[u32]) -> usize
     requires { ⌜ (length (now records) ≡ recordSize * length (now lengths)) × (length (now lengths) ≤ entryLimit) ⌝ }
     ensures { λ r. ⌜ Counted r (surfacesSize (now (lengths .entry)) (column recordSize 0 (now (records .entry)))) (2 ^ 57) ⌝ }

@@ -35,6 +35,7 @@ pub struct Latest {
     pub last: usize,
 }
 
+// Before the first chunk.
 fn nothing_yet() -> Latest
     ensures { λ r. ⌜ r ≡ nothingLatest ⌝ }
 {
@@ -59,6 +60,7 @@ fn with_points(l: Latest, n: usize) -> Latest
     later
 }
 
+// The list of names was met. A file has one at most.
 fn with_names(l: Latest, n: usize) -> Latest
     ensures { λ r. ⌜ r ≡ withNames l n ⌝ }
 {

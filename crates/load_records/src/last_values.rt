@@ -41,6 +41,7 @@ pub struct LastValues {
 }
 
 impl Levels {
+    // No level was met.
     pub(crate) fn none() -> Self
         ensures { λ r. ⌜ r ≡ noLevels ⌝ }
     {
@@ -57,6 +58,7 @@ impl Levels {
         }
     }
 
+    // The last value of one level.
     fn with(mut self, which: Shading, level: f32) -> Self
         ensures { λ r. ⌜ r ≡ withLevel self which level ⌝ }
     {
@@ -73,6 +75,7 @@ impl Levels {
 }
 
 impl LastValues {
+    // No sub-chunk was met.
     fn none() -> Self
         ensures { λ r. ⌜ NoneMet r ⌝ }
     {

@@ -77,6 +77,7 @@ impl Record {
         }
     }
 
+    // The kinds of file differ in their missing values; LWOB alone has float forms, and flags that give luminosity and sides.
     fn of_values(values: LastValues, kind: Kind) -> Self
         requires { ⌜ LastValuesHaveBits values ⌝ }
         ensures { λ r. ⌜ RecordIs (recordFrom kind (takenOf values)) r ⌝ }

@@ -38,6 +38,7 @@ pub extern "C" fn lwo_version() -> u32
     256
 }
 
+// `read`, with its answer in C's types.
 #[no_mangle]
 pub extern "C" fn lwo_read(
     file: &[u8],
@@ -64,6 +65,7 @@ pub extern "C" fn lwo_read(
     }
 }
 
+// `write`, with its answer in C's types.
 #[no_mangle]
 pub extern "C" fn lwo_write(
     points: &[u32],

@@ -46,6 +46,7 @@ fn enveloped(s: &[u8], head: usize, c: Cursor, value: Value) -> ValueResult
     ValueResult::Got(value)
 }
 
+// A level and its envelope.
 fn enveloped_level(s: &[u8], head: usize, which: Shading) -> ValueResult
     requires { ⌜ head + 6 ≤ length (now s) ⌝ }
     ensures { λ r. ⌜ ValueResultAt (envelopedLevel (shortTag which)) head (now (s .entry)) r ⌝ }
@@ -68,6 +69,7 @@ fn blue(s: &[u8], head: usize, c: Cursor, red: f32, green: f32) -> ValueResult
     }
 }
 
+// A colour's last two levels, after the first.
 fn green_and_blue(s: &[u8], head: usize, c: Cursor, red: f32) -> ValueResult
     requires { ⌜ HasBits red ⌝ }
     ensures { λ r. ⌜ RestAt (greenAfter (bits red)) head (now (s .entry)) (c .at) r ⌝ }
@@ -78,6 +80,7 @@ fn green_and_blue(s: &[u8], head: usize, c: Cursor, red: f32) -> ValueResult
     }
 }
 
+// COLR. Its floats are read one after the other, so that the first at fault is told.
 fn float_colour(s: &[u8], head: usize) -> ValueResult
     requires { ⌜ head + 6 ≤ length (now s) ⌝ }
     ensures { λ r. ⌜ ValueResultAt (floatColour colourTag) head (now (s .entry)) r ⌝ }
@@ -89,12 +92,14 @@ fn float_colour(s: &[u8], head: usize) -> ValueResult
     }
 }
 
+// One side, or both.
 fn is_side(n: u32) -> bool
     ensures { λ r. ⌜ r ≡ sideNumber n ⌝ }
 {
     (n == 1) | (n == 3)
 }
 
+// SIDE has a fixed length, which is judged before its value.
 fn side(s: &[u8], head: usize) -> ValueResult
     requires { ⌜ head + 6 ≤ length (now s) ⌝ }
     ensures { λ r. ⌜ ValueResultAt (side sideTag) head (now (s .entry)) r ⌝ }
@@ -123,6 +128,7 @@ fn side(s: &[u8], head: usize) -> ValueResult
     }
 }
 
+// By its tag. A sub-chunk that is not listed gives no value.
 pub fn lwo2_value(s: &[u8], head: usize, tag: u32) -> ValueResult
     requires { ⌜ head + 6 ≤ length (now s) ⌝ }
     ensures { λ r. ⌜ ValueResultAt (lwo2Value tag) head (now (s .entry)) r ⌝ }

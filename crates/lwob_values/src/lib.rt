@@ -23,6 +23,7 @@ use wire::cursor::I2Read;
 use wire::cursor::Number;
 use wire::cursor::left;
 
+// COLR: three bytes, and a fourth that is not judged.
 fn byte_colour(s: &[u8], head: usize) -> ValueResult
     requires { ⌜ head + 6 ≤ length (now s) ⌝ }
     ensures { λ r. ⌜ ValueResultAt (byteColour colourTag) head (now (s .entry)) r ⌝ }
@@ -40,6 +41,7 @@ fn byte_colour(s: &[u8], head: usize) -> ValueResult
     ValueResult::Got(Value::Colour(red, green, blue))
 }
 
+// The short form of a level.
 fn short_level(s: &[u8], head: usize, which: Shading) -> ValueResult
     requires { ⌜ head + 6 ≤ length (now s) ⌝ }
     ensures { λ r. ⌜ ValueResultAt (shortLevel (shortTag which)) head (now (s .entry)) r ⌝ }
@@ -61,6 +63,7 @@ fn short_level(s: &[u8], head: usize, which: Shading) -> ValueResult
     ValueResult::Got(Value::Level(which, level(n)))
 }
 
+// The float form of a level, which wins over the short one.
 fn long_level(s: &[u8], head: usize, which: Shading) -> ValueResult
     requires { ⌜ head + 6 ≤ length (now s) ⌝ }
     ensures { λ r. ⌜ ValueResultAt (longLevel (longTag which)) head (now (s .entry)) r ⌝ }
@@ -78,6 +81,7 @@ fn long_level(s: &[u8], head: usize, which: Shading) -> ValueResult
     }
 }
 
+// FLAG. What its bits mean is settled with the record.
 fn flags(s: &[u8], head: usize) -> ValueResult
     requires { ⌜ head + 6 ≤ length (now s) ⌝ }
     ensures { λ r. ⌜ ValueResultAt (flags flagTag) head (now (s .entry)) r ⌝ }
@@ -99,6 +103,7 @@ fn flags(s: &[u8], head: usize) -> ValueResult
     ValueResult::Got(Value::Flags(n))
 }
 
+// By its tag. A sub-chunk that is not listed gives no value.
 pub fn lwob_value(s: &[u8], head: usize, tag: u32) -> ValueResult
     requires { ⌜ head + 6 ≤ length (now s) ⌝ }
     ensures { λ r. ⌜ ValueResultAt (lwobValue tag) head (now (s .entry)) r ⌝ }

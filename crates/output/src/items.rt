@@ -22,6 +22,7 @@ pub fn put_u2(out: &mut [u8], at: usize, n: u32) -> usize
     at + 2
 }
 
+// Four bytes, the high one first.
 pub fn put_u4(out: &mut [u8], at: usize, n: u32) -> usize
     requires { ⌜ at + 4 ≤ length (now out) ⌝ }
     ensures { λ r. ⌜ Wrote (now (out .entry)) at (bytes 4 n) (now (out .exit)) r ⌝ }
@@ -56,6 +57,7 @@ pub fn put_words(out: &mut [u8], at: usize, words: &[u32]) -> usize
     next
 }
 
+// The vertices of a polygon, a VX each.
 pub fn put_vertices(out: &mut [u8], at: usize, vertices: &[u32]) -> usize
     requires { ⌜ (all (λ v. ltb v (2 ^ 24)) (now vertices) ≡ true) × (at + total vxBytes (now vertices) ≤ length (now out)) ⌝ }
     ensures { λ r. ⌜ Wrote (now (out .entry)) at (joined (map vxBytes (now (vertices .entry)))) (now (out .exit)) r ⌝ }
@@ -69,6 +71,7 @@ pub fn put_vertices(out: &mut [u8], at: usize, vertices: &[u32]) -> usize
     next
 }
 
+// Bytes as they are.
 pub fn put_bytes(out: &mut [u8], at: usize, part: &[u8]) -> usize
     requires { ⌜ at + length (now part) ≤ length (now out) ⌝ }
     ensures { λ r. ⌜ Wrote (now (out .entry)) at (now (part .entry)) (now (out .exit)) r ⌝ }

@@ -21,6 +21,7 @@ pub enum LwobEntry {
     Stop(Refusal),
 }
 
+// The vertices and the surface number behind them.
 pub fn lwob_entry_at(s: &[u8], c: Cursor, points: usize) -> LwobEntry
     ensures { λ r. ⌜ LwobEntryAt points (now (s .entry)) (c .at) r ⌝ }
 {

@@ -7,6 +7,7 @@ use format::Fault;
 use validate::counts::Totals;
 use wire::Refusal;
 
+// The number that document 01 gives a fault.
 fn number_of(why: Fault) -> u32
     ensures { λ r. ⌜ r ≡ numberOf why ⌝ }
 {

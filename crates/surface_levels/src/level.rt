@@ -11,12 +11,14 @@ pub enum FloatRead {
     Stop(Refusal),
 }
 
+// The short form of a level in an LWOB file. The division is exact.
 pub fn level(n: i16) -> f32
     ensures { λ r. ⌜ LevelOf n r ⌝ }
 {
     n as f32 / 256.0
 }
 
+// A byte of a colour in an LWOB file, rounded once by the division.
 pub fn colour(b: u8) -> f32
     ensures { λ r. ⌜ ColourOf b r ⌝ }
 {

@@ -54,6 +54,7 @@ fn named_among(
     Named::Other
 }
 
+// By the tags of LWO2's levels, which are those of LWOB's short forms.
 pub fn level_named(tag: u32) -> Named
     ensures { λ r. ⌜ NamedBy shortTag tag r ⌝ }
 {

@@ -9,6 +9,7 @@ use lwo2_values::lwo2_value;
 use lwob_values::lwob_value;
 use surface_levels::value::ValueResult;
 
+// The two kinds of file share tags and lay the bodies out differently.
 pub fn value_of(s: &[u8], head: usize, tag: u32, kind: Kind) -> ValueResult
     requires { ⌜ head + 6 ≤ length (now s) ⌝ }
     ensures { λ r. ⌜ ValueResultAt (valueOf kind tag) head (now (s .entry)) r ⌝ }

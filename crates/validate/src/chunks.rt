@@ -48,6 +48,7 @@ fn place(chunk: usize, at: usize) -> usize
     chunk
 }
 
+// Chunks in file order, so that the first fault is the one told.
 pub fn validate_chunks(file: &[u8], kind: Kind) -> ChunksResult
     ensures { λ r. ⌜ ChunksJudged kind (now (file .entry)) r ⌝ }
 {

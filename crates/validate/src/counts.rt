@@ -22,6 +22,7 @@ pub struct Seen {
     pub totals: Totals,
 }
 
+// Before the first chunk no list is there, and nothing is counted.
 pub fn nothing_seen() -> Seen
     ensures { λ r. ⌜ r ≡ nothingSeen ⌝ }
 {
@@ -71,6 +72,7 @@ pub fn lengths_after(lengths: Lengths, part: Counted) -> Lengths
     }
 }
 
+// The sums with what one chunk adds. They cannot wrap, since a chunk adds no more than it has bytes.
 pub fn totals_with(totals: Totals, part: Counted) -> Totals
     requires { ⌜ allOf totals + weight part < 2 ^ 64 ⌝ }
     ensures { λ r. ⌜ r ≡ totalsWith totals part ⌝ }
@@ -100,6 +102,7 @@ pub fn totals_with(totals: Totals, part: Counted) -> Totals
     }
 }
 
+// The lists and the sums after one chunk more.
 pub fn seen_with(seen: Seen, part: Counted) -> Seen
     requires { ⌜ allOf (seen .totals) + weight part < 2 ^ 64 ⌝ }
     ensures { λ r. ⌜ r ≡ seenWith seen part ⌝ }

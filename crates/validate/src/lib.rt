@@ -18,6 +18,7 @@ pub enum FileResult {
     Counts { kind: Kind, totals: Totals },
 }
 
+// The header comes first: it says by which kind of file the chunks are judged.
 pub fn validate(file: &[u8]) -> FileResult
     ensures { λ r. ⌜ FileJudged (now (file .entry)) r ⌝ }
 {

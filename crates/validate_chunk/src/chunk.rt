@@ -52,6 +52,7 @@ pub enum Judgement {
     Stop(Refusal),
 }
 
+// Something that must come earlier is missing, or a single chunk comes twice.
 fn out_of_order() -> Judgement
     ensures { λ r. ⌜ judgedAs r ≡ fault OutOfOrder 0 ⌝ }
 {
@@ -163,6 +164,7 @@ fn tagging_chunk(s: &[u8], lengths: Lengths) -> Judgement
     of_checked(tagging_body(s, p, count(names)))
 }
 
+// LWOB's listed tags. Any other chunk is skipped and counted.
 fn lwob_chunk(s: &[u8], tag: u32, lengths: Lengths) -> Judgement
     ensures { λ r. ⌜ CountsOf (judge LWOB (beforeOf lengths) tag) (now (s .entry)) r ⌝ }
 {
@@ -184,6 +186,7 @@ fn lwob_chunk(s: &[u8], tag: u32, lengths: Lengths) -> Judgement
     Judgement::Fine(Counted::Skipped)
 }
 
+// LWO2's listed tags. Any other chunk is skipped and counted.
 fn lwo2_chunk(s: &[u8], tag: u32, lengths: Lengths) -> Judgement
     ensures { λ r. ⌜ CountsOf (judge LWO2 (beforeOf lengths) tag) (now (s .entry)) r ⌝ }
 {

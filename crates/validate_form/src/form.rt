@@ -15,6 +15,7 @@ pub enum FormResult {
     Stop(Fault),
 }
 
+// The type behind the FORM's length.
 fn kind_of(t: u32) -> FormResult
     ensures { λ r. ⌜ formAs r ≡ kindOf t ⌝ }
 {

@@ -45,6 +45,7 @@ pub fn face(s: &[u8], c: Cursor, points: usize, names: usize) -> Entry
     }
 }
 
+// Faces from the first byte of the body on.
 pub fn faces_body(s: &[u8], points: usize, names: usize) -> Polygons
     ensures { λ r. ⌜ Judged (facesBody points names) sizesOf (now (s .entry)) (polygonsAs r) ⌝ }
 {

@@ -41,6 +41,7 @@ pub fn patch(s: &[u8], c: Cursor, points: usize, names: usize) -> Entry
     }
 }
 
+// Patches from the first byte of the body on.
 pub fn patches_body(s: &[u8], points: usize, names: usize) -> Polygons
     ensures { λ r. ⌜ Judged (patchesBody points names) sizesOf (now (s .entry)) (polygonsAs r) ⌝ }
 {

@@ -38,6 +38,7 @@ pub fn polygon(s: &[u8], c: Cursor, points: usize) -> Entry
     }
 }
 
+// The type comes before the polygons, which are all of its kind.
 pub fn polygons_body(s: &[u8], points: usize) -> Polygons
     ensures { λ r. ⌜ Judged (polygonsBody points) sizesOf (now (s .entry)) (polygonsAs r) ⌝ }
 {

@@ -12,6 +12,7 @@ use wire::Step;
 // Levels two, three and four.
 const DEPTH: u32 = 3;
 
+// Strings, and then sub-chunks up to the end of the body.
 pub fn surface_body(s: &[u8], kind: Kind) -> Checked
     ensures { λ r. ⌜ Judged (surfaceBody kind) nothing (now (s .entry)) (checkedAs r) ⌝ }
 {

@@ -55,6 +55,7 @@ fn is_first(head: usize, blok: usize) -> bool
     head - 6 == blok
 }
 
+// The tags of a block's header.
 fn is_block_type(tag: u32) -> bool
     ensures { λ r. ⌜ r ≡ blockType tag ⌝ }
 {
@@ -120,6 +121,7 @@ fn value(s: &[u8], head: usize, tag: u32, kind: Kind) -> Body
     }
 }
 
+// A sub-chunk of SURF's own. Only LWO2 has blocks.
 fn in_surface(s: &[u8], head: usize, tag: u32, kind: Kind) -> Body
     requires { ⌜ head + 6 ≤ length (now s) ⌝ }
     ensures { λ r. ⌜ BodyAt (λ inner. held inner (Surf kind) tag) head (now (s .entry)) r ⌝ }
@@ -135,6 +137,7 @@ fn in_surface(s: &[u8], head: usize, tag: u32, kind: Kind) -> Body
     }
 }
 
+// A sub-chunk of a BLOK. The first is its header.
 fn in_block(s: &[u8], head: usize, blok: usize, tag: u32) -> Body
     requires { ⌜ head + 6 ≤ length (now s) ⌝ }
     ensures { λ r. ⌜ BodyAt (λ inner. held inner (Blok blok) tag) head (now (s .entry)) r ⌝ }
@@ -146,6 +149,7 @@ fn in_block(s: &[u8], head: usize, blok: usize, tag: u32) -> Body
     }
 }
 
+// What is left to check of a body, by what the sub-chunk stands in.
 fn held(s: &[u8], head: usize, tag: u32, container: Container) -> Body
     requires { ⌜ head + 6 ≤ length (now s) ⌝ }
     ensures { λ r. ⌜ BodyAt (λ inner. held inner container tag) head (now (s .entry)) r ⌝ }
@@ -157,6 +161,7 @@ fn held(s: &[u8], head: usize, tag: u32, container: Container) -> Body
     }
 }
 
+// The header is judged before the body.
 fn sub_chunk(s: &[u8], c: Cursor, container: Container) -> SubChunk
     ensures { λ r. ⌜ SubChunkAt container (now (s .entry)) (c .at) r ⌝ }
 {

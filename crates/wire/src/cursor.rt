@@ -154,6 +154,7 @@ fn terminator(s: &[u8], at: usize) -> usize
 }
 
 impl Cursor {
+    // Two bytes, the high one first.
     pub fn u2(self, s: &[u8]) -> Number
         ensures { λ r. ⌜ NumberAt u2 2 (now (s .entry)) (self .at) r ⌝ }
     {
@@ -164,6 +165,7 @@ impl Cursor {
         Number::Got(pair(s, at) as u32, Cursor { at: at + 2 })
     }
 
+    // Four bytes, the high one first: a type, or the bits of a float.
     pub fn u4(self, s: &[u8]) -> Number
         ensures { λ r. ⌜ NumberAt u4 4 (now (s .entry)) (self .at) r ⌝ }
     {
@@ -174,6 +176,7 @@ impl Cursor {
         Number::Got(word(s, at), Cursor { at: at + 4 })
     }
 
+    // Two bytes as a signed number.
     pub fn i2(self, s: &[u8]) -> I2Read
         ensures { λ r. ⌜ I2At (now (s .entry)) (self .at) r ⌝ }
     {
@@ -210,6 +213,7 @@ impl Cursor {
         Item::Got(n, next)
     }
 
+    // A coordinate or a level. Only one that is not cut is judged.
     pub fn float(self, s: &[u8]) -> Item
         ensures { λ r. ⌜ ItemAt float 4 (now (s .entry)) (self .at) r ⌝ }
     {
@@ -223,6 +227,7 @@ impl Cursor {
         }
     }
 
+    // A name, its terminator, and one more zero where the two together are odd. The name starts at the cursor.
     pub fn string(self, s: &[u8]) -> Text
         ensures { λ r. ⌜ TextAt (now (s .entry)) (self .at) r ⌝ }
     {

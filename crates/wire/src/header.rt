@@ -16,12 +16,14 @@ pub enum Header {
     Bad,
 }
 
+// A character that is printed.
 fn tag_byte(b: u8) -> bool
     ensures { λ r. ⌜ r ≡ between 32 126 b ⌝ }
 {
     (32 <= b) & (b <= 126)
 }
 
+// The four bytes of a tag.
 fn tag_ok(s: &[u8], at: usize) -> bool
     requires { ⌜ at + 4 ≤ length (now s) ⌝ }
     ensures { λ r. ⌜ r ≡ all (between 32 126) (take 4 (drop at (now (s .entry)))) ⌝ }

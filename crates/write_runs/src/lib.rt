@@ -29,6 +29,7 @@ use output::items::put_u4;
 pub mod pairs;
 pub mod polygons;
 
+// The type of a POLS, by the kind of its polygons.
 fn type_of(kind: u32) -> u32
     ensures { λ r. ⌜ bytes 4 r ≡ spelt (typeOf kind) ⌝ }
 {
@@ -58,6 +59,7 @@ fn put_ptag(out: &mut [u8], at: usize, run: &[u32]) -> usize
     close_chunk(out, at, PTAG, end)
 }
 
+// The PTAG stands behind its POLS, into which its pairs are.
 fn put_run(out: &mut [u8], at: usize, run: &[u32], vertices: &[u32]) -> usize
     requires { ⌜ RunLent (now run) (now vertices) × (at + length (chunksBytes (runChunks (meshPolygons (now run) (now vertices)))) ≤ length (now out)) ⌝ }
     ensures { λ r. ⌜ Wrote (now (out .entry)) at (chunksBytes (runChunks (meshPolygons (now (run .entry)) (now (vertices .entry))))) (now (out .exit)) r ⌝ }
@@ -66,6 +68,7 @@ fn put_run(out: &mut [u8], at: usize, run: &[u32], vertices: &[u32]) -> usize
     put_ptag(out, next, run)
 }
 
+// The longest runs of one kind, in the order of the table.
 pub fn put_runs(out: &mut [u8], at: usize, polygons: &[u32], vertices: &[u32]) -> usize
     requires { ⌜ Indexed (now polygons) (now vertices) × (at + length (chunksBytes (joined (map runChunks (runs (meshPolygons (now polygons) (now vertices)))))) ≤ length (now out)) ⌝ }
     ensures { λ r. ⌜ Wrote (now (out .entry)) at (chunksBytes (joined (map runChunks (runs (meshPolygons (now (polygons .entry)) (now (vertices .entry))))))) (now (out .exit)) r ⌝ }

@@ -40,6 +40,7 @@ pub fn no_surfaces(run: &[u32]) -> bool
     true
 }
 
+// The polygons are walked in order, so that the pairs ascend.
 pub fn put_pairs(out: &mut [u8], at: usize, run: &[u32]) -> usize
     requires { ⌜ (length (now run) ≤ polygonSize * entryLimit) × (at + length (pairsFrom 0 (column polygonSize 2 (now run))) ≤ length (now out)) ⌝ }
     ensures { λ r. ⌜ Wrote (now (out .entry)) at (pairsFrom 0 (column polygonSize 2 (now (run .entry)))) (now (out .exit)) r ⌝ }

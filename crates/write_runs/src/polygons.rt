@@ -24,6 +24,7 @@ fn put_polygon(out: &mut [u8], at: usize, vertices: &[u32]) -> usize
     put_vertices(out, next, vertices)
 }
 
+// The polygons of a run. The vertices of each stand behind those of the one before it.
 pub fn put_polygons(out: &mut [u8], at: usize, polygons: &[u32], vertices: &[u32]) -> usize
     requires { ⌜ PolsRoom (now out) at (now polygons) (now vertices) ⌝ }
     ensures { λ r. ⌜ Wrote (now (out .entry)) at (joined (map polygonBytes (meshPolygons (now (polygons .entry)) (now (vertices .entry))))) (now (out .exit)) r ⌝ }

@@ -35,6 +35,7 @@ fn put_levels(out: &mut [u8], at: usize, tag: u32, levels: &[u32]) -> usize
     put_vx(out, envelope, 0)
 }
 
+// SIDE, whose body has two bytes.
 fn put_sides(out: &mut [u8], at: usize, sides: u32) -> usize
     requires { ⌜ at + length (chunkBytes 2 "SIDE" (bytes 2 sides)) ≤ length (now out) ⌝ }
     ensures { λ r. ⌜ Wrote (now (out .entry)) at (chunkBytes 2 "SIDE" (bytes 2 sides)) (now (out .exit)) r ⌝ }
@@ -71,6 +72,7 @@ fn put_surface(out: &mut [u8], at: usize, name: &[u8], words: &[u32]) -> usize
     close_chunk(out, at, SURF, end)
 }
 
+// A SURF for each name whose record is defined, in the order of the names.
 pub fn put_surfaces(
     out: &mut [u8],
     at: usize,

@@ -27,6 +27,7 @@ pub struct WriteAnswer {
     pub length: usize,
 }
 
+// The writer's place is always 0.
 fn says(number: u32, length: usize) -> WriteAnswer
     ensures { λ r. ⌜ r ≡ record { number = number; place = 0; length = length } ⌝ }
 {

@@ -15,9 +15,9 @@ bench: measures the proved library against the second program and a copy
 usage: bench [--rounds R] [--names]
        bench once TASK
 
-Reads and writes a 10 MB LWO2 grid and a 1.4 MB LWOB grid, each with the proved
-library, with the second program, and as a copy of the same bytes with a byte
-swap; then reads LWO2 grids of 1 to 16 MB. Times are the best of R rounds (9),
+Reads and writes a 10 MB LWO2 grid and a 1.4 MB LWOB grid, and reads an LWOB grid
+of 3 KB, each with the proved library, with the second program, and as a copy of
+the same bytes with a byte swap; then reads LWO2 grids of 1 to 16 MB. Times are the best of R rounds (9),
 everything once in each round; tables and output are cleared before each call.
 With --names lists of 2,000 names, of 250 bytes and of 2, are read too. Exits
 with 1 where the library and the second program do not give the same.

@@ -11,6 +11,11 @@ pub const LWO2_BYTES: usize = 10_000_000;
 /// The points on a side of the LWOB grid: 1.4 MB, all indices in two bytes.
 pub const LWOB_SIDE: usize = 242;
 
+/// The points on a side of a small LWOB grid, of the size of a panel: 3 KB. A
+/// call is short, so it is timed more often.
+const SMALL_SIDE: usize = 12;
+const SMALL_ROUNDS: u32 = 100;
+
 /// Lengths for how time grows; the last one is the longest file of all.
 const LENGTHS: [usize; 5] = [1 << 20, 2 << 20, 4 << 20, 8 << 20, 16 << 20];
 
@@ -35,8 +40,10 @@ fn print_ratios(rounds: u32) -> Result<(), String> {
     );
     let lwo2 = lwo2_grid(LWO2_BYTES);
     let lwob = lwob_grid(LWOB_SIDE);
+    let small = lwob_grid(SMALL_SIDE);
     print_ratio("read", &lwo2, &read(&lwo2, rounds)?);
     print_ratio("read", &lwob, &read(&lwob, rounds)?);
+    print_ratio("read", &small, &read(&small, rounds * SMALL_ROUNDS)?);
     print_ratio("write", &lwo2, &write(&lwo2, rounds)?);
     print_ratio("write", &lwob, &write(&lwob, rounds)?);
     Ok(())
@@ -44,7 +51,7 @@ fn print_ratios(rounds: u32) -> Result<(), String> {
 
 fn print_ratio(what: &str, work: &Work, times: &Times) {
     println!(
-        "{:32} {:>10} {:>10.3} {:>10.3} {:>10.3} {:>10.2} {:>10.2}",
+        "{:32} {:>10} {:>10.4} {:>10.4} {:>10.4} {:>10.2} {:>10.2}",
         format!("{what} {}", work.name),
         times.bytes,
         milliseconds(times.proved),

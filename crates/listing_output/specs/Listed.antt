@@ -11,7 +11,7 @@ use Rattle.format.specs.Rules.{refused, gives, rules}
 use Rattle.format.specs.Answer.{fits, answer}
 use Rattle.listing_text.specs.Text.{polygonLines}
 use Rattle.listing_answer.specs.Listing.{countLines, refusalLine}
-use Rattle.listing.specs.Program.{inputLimit, programTables, notRead}
+use Rattle.listing_output.specs.Program.{inputLimit, programTables, notRead}
 
 -- the program prints `text` for an input
 pub record Listed (input text : List ℕ) : Type 0 where

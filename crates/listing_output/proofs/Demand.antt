@@ -16,8 +16,8 @@ use Rattle.format.specs.Answer.{Answer, fits, answer}
 use Rattle.laws.proofs.Room.{refused-range}
 use Rattle.listing_text.specs.Text.{polygonLines}
 use Rattle.listing_answer.specs.Listing.{countLines, refusalLine, listing, polygonsGiven}
-use Rattle.listing.specs.Program.{inputLimit, programTables, notRead, fileListing, printed}
-use Rattle.listing.specs.Listed.{Listed}
+use Rattle.listing_output.specs.Program.{inputLimit, programTables, notRead, fileListing, printed}
+use Rattle.listing_output.specs.Listed.{Listed}
 
 -- no listing begins as `not read` does
 other : (a : Answer) (ps : List Polygon) → listing a ps ≡ notRead → ⊥

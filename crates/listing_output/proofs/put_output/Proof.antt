@@ -2,10 +2,10 @@
 use borrow.Author.Needs.{needs}
 use Rattle.listing_text.proofs.PrintedSoFar.{wrote-all}
 use Rattle.listing_answer.proofs.AfterReading.{after-reading}
-use Rattle.listing.proofs.FileListing.{wrote-file}
-use Rattle.listing.proofs.PrintedInput.{not-read, was-read, counts}
-use Rattle.listing.proofs.put_output.Statement.{statement}
-use Rattle.listing.proofs.put_output.Tie as tie
+use Rattle.listing_output.proofs.FileListing.{wrote-file}
+use Rattle.listing_output.proofs.PrintedInput.{not-read, was-read, counts}
+use Rattle.listing_output.proofs.put_output.Statement.{statement}
+use Rattle.listing_output.proofs.put_output.Tie as tie
 
 returns : tie.Need-returns
 returns c = (not-read (c .before .before .before .if1 .taken) (c .put-bytes .ensures), counts (wrote-all (c .put-bytes .ensures)) (search needs))

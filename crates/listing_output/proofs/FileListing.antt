@@ -12,7 +12,7 @@ use Rattle.read_answer.specs.Reads.{answerAs}
 use Rattle.listing_answer.specs.Listing.{listing, polygonsGiven}
 use Rattle.listing_answer.specs.Lent.{countedPolygons}
 use Rattle.listing_answer.proofs.AfterReading.{after-reading}
-use Rattle.listing.specs.Program.{programTables, fileListing}
+use Rattle.listing_output.specs.Program.{programTables, fileListing}
 
 -- lent tables as long as the program's
 pub record ProgramLengths (t : Tables) : Type 0 where

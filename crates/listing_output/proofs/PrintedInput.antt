@@ -9,7 +9,7 @@ use borrow.Author.Tests.{lt-ltb, le-ltb}
 use Rattle.io.specs.Counts.{Counts}
 use Rattle.output.specs.Outputs.{Wrote}
 use Rattle.listing_text.specs.Prints.{Prints}
-use Rattle.listing.specs.Program.{inputLimit, notRead, fileListing, printed, PrintsInput}
+use Rattle.listing_output.specs.Program.{inputLimit, notRead, fileListing, printed, PrintsInput}
 
 module _ (part input : List ℕ) (room : ℕ) (read : take room input ≡ part) where
   least : min room (length input) ≡ length part

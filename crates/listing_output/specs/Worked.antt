@@ -15,7 +15,7 @@ use Rattle.format.specs.Answer.{fits, answer}
 use Rattle.format.specs.Worked.{digit, pairs, hex, case-l}
 use Rattle.listing_text.specs.Text.{lineEnd, digits, decimal, heading, vertexTexts, polygonLine, polygonLines}
 use Rattle.listing_answer.specs.Listing.{needLines, countLines, refusalLine, listing, polygonsGiven}
-use Rattle.listing.specs.Program.{programTables, fileListing, printed}
+use Rattle.listing_output.specs.Program.{programTables, fileListing, printed}
 
 lines : List String → List ℕ
 lines texts = joined (map (λ text. spelt text ++ lineEnd) texts)
