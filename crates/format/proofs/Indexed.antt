@@ -5,7 +5,7 @@ use mathlib.Core.List.{List, [], _∷_, _++_, map, append-assoc, append-nil}
 use native.Mathlib.Numerals.{add-one}
 use native.Mathlib.Omega.{arith}
 use lib.ListN.{length, getD, take, drop, drop-of-length-le, length-drop}
-use lib.Seq.{take-at, drop-at, drop-cons, drop-drop, length-take-le}
+use lib.Seq.{take-at, take-add, drop-at, drop-cons, drop-drop, length-take-le}
 use Rattle.format.specs.Bytes.{joined, sum}
 use Rattle.format.specs.Written.{pieces}
 
@@ -22,6 +22,18 @@ part at n xs = let e : at + n - at ≡ n = omega arith in rw e
 pub sum-index : (i : ℕ) (ns : List ℕ) → i < length ns → sum (drop i ns) ≡ getD ns i 0 + sum (drop (i + 1) ns)
 unfolding sum
 sum-index i ns inside = rw (at-index ns i inside)
+
+-- the same, as what is left of a prefix
+pub part-of-front : {A : Type 0} (at n : ℕ) (xs : List A) → at ≤ length xs → drop at (take (at + n) xs) ≡ take n (drop at xs)
+part-of-front at n xs fits = rw (take-add at n xs) (drop-at (take at xs) (take n (drop at xs)) at (length-take-le at xs fits))
+
+-- the four elements at a place
+pub four-at : (s : List ℕ) (at : ℕ) → at + 4 ≤ length s → take 4 (drop at s) ≡ getD s at 0 ∷ getD s (at + 1) 0 ∷ getD s (at + 2) 0 ∷ getD s (at + 3) 0 ∷ []
+four-at s at h =
+    let e : at + 1 ≡ suc at = omega arith in
+    let f : at + 2 ≡ suc (suc at) = omega arith in
+    let g : at + 3 ≡ suc (suc (suc at)) = omega arith in
+    rw (e, f, g, drop-cons s at 0 (omega arith), drop-cons s (suc at) 0 (omega arith), drop-cons s (suc (suc at)) 0 (omega arith), drop-cons s (suc (suc (suc at))) 0 (omega arith))
 
 -- a list without elements
 pub no-elements : {A : Type 0} (xs : List A) → 0 ≡ length xs → xs ≡ []

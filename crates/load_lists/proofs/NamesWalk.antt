@@ -18,7 +18,7 @@ use Rattle.format.proofs.Puts.{joined-map-append, put-none}
 use Rattle.format.proofs.Verdicts.{same-fine}
 use Rattle.format.proofs.PartByTag.{Made, holds-names, always}
 use Rattle.format.proofs.OneNameList.{no-more-names}
-use Rattle.wire.proofs.FileWalk.{WalkedTo, ChunkHere, begin, end, all-parts, after-chunk}
+use Rattle.headers.proofs.FileWalk.{WalkedTo, ChunkHere, begin, end, all-parts, after-chunk}
 use Rattle.load_lists.specs.Contracts.{NamesRoom, NamesPut, fileNameLengths, fileNameBytes}
 
 -- ---- a chunk that holds no names

@@ -11,10 +11,10 @@ use Rattle.format.specs.Contracts.{Put, FileRoom, FilePut}
 use Rattle.format.proofs.Verdicts.{same-fine}
 use Rattle.format.proofs.Puts.{joined-map-append, put-none, put-length, put-append}
 use Rattle.wire.specs.declared.cursor.Cursor.{Cursor}
-use Rattle.wire.specs.declared.header.Header.{Header}
-use Rattle.wire.specs.Contracts.{HeaderAt}
-use Rattle.wire.proofs.FileWalk as walk
-use Rattle.wire.proofs.FileWalk.{WalkedTo, ChunkHere}
+use Rattle.headers.specs.declared.Header.{Header}
+use Rattle.headers.specs.Contracts.{HeaderAt}
+use Rattle.headers.proofs.FileWalk as walk
+use Rattle.headers.proofs.FileWalk.{WalkedTo, ChunkHere}
 use Rattle.load_lists.specs.Contracts.{partPoints, filePoints, ChunkRoom, ChunkPut}
 
 -- the points of one part more

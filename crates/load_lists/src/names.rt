@@ -8,10 +8,10 @@ ghost use Rattle.load_lists.specs.Contracts.{NamesRoom, NamesPut, fileNa
 use format::Kind;
 use format::tags::SRFS;
 use format::tags::TAGS;
+use headers::Header;
+use headers::chunk_at;
 use wire::cursor::Cursor;
 use wire::cursor::Text;
-use wire::header::Header;
-use wire::header::chunk_at;
 
 // The n bytes at a place into the table from the index m on.
 fn put_bytes(s: &[u8], at: usize, n: usize, table: &mut [u8], m: usize)

@@ -4,11 +4,11 @@ ghost use Rattle.load_lists.specs.Contracts.{PointsRoom, PointsPut, Chun
 use format::Kind;
 use format::POINT_WORDS;
 use format::tags::PNTS;
+use headers::Header;
+use headers::chunk_at;
 use wire::cursor::Cursor;
 use wire::cursor::left;
 use wire::cursor::word;
-use wire::header::Header;
-use wire::header::chunk_at;
 
 // Three words a point, in file order, from the index m on. A float is put as it stands, so that its bits stay what they are. The body was judged to hold
 // whole points, so that each turn puts one of them.

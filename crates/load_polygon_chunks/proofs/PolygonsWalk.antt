@@ -18,11 +18,11 @@ use Rattle.format.proofs.SizeBound.{things, chunk-bound}
 use Rattle.format.proofs.OneNameList.{no-more-names, first-names}
 use Rattle.format.proofs.Puts.{total-append}
 use Rattle.wire.specs.declared.cursor.Cursor.{Cursor}
-use Rattle.wire.specs.declared.header.Header.{Header}
-use Rattle.wire.specs.Contracts.{HeaderAt}
-use Rattle.wire.proofs.ChunkInFile.{long}
-use Rattle.wire.proofs.FileWalk as walk
-use Rattle.wire.proofs.FileWalk.{WalkedTo, ChunkHere, none-left, after-chunk}
+use Rattle.headers.specs.declared.Header.{Header}
+use Rattle.headers.specs.Contracts.{HeaderAt}
+use Rattle.headers.proofs.ChunkInFile.{long}
+use Rattle.headers.proofs.FileWalk as walk
+use Rattle.headers.proofs.FileWalk.{WalkedTo, ChunkHere, none-left, after-chunk}
 use Rattle.load_polygon_chunks.specs.declared.polygons.Latest.{Latest}
 use Rattle.load_polygon_chunks.specs.Contracts.{allPolygons, filePolygons, fileVertices, FilePolygonsRoom}
 use Rattle.load_polygon_chunks.specs.Held.{Held, nothingHeld, endOf, heldPolygons, heldAfter, nothingLatest, HeldStored, PartRoom, PartPut}

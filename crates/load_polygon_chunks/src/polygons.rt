@@ -13,6 +13,8 @@ use format::tags::POLS;
 use format::tags::PTAG;
 use format::tags::SRFS;
 use format::tags::TAGS;
+use headers::Header;
+use headers::chunk_at;
 use load_polygons::faces::put_faces;
 use load_polygons::patches::put_patches;
 use load_polygons::polygons::put_polygons;
@@ -21,8 +23,6 @@ use load_vertices::Ends;
 use load_vertices::Lists;
 use wire::cursor::Cursor;
 use wire::cursor::left;
-use wire::header::Header;
-use wire::header::chunk_at;
 
 // How many points come before the latest list and how many it has, how many names are listed so far, the indices where the words of the latest POLS
 // start and end, and the index after the last vertex.

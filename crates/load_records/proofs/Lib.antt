@@ -1,4 +1,3 @@
 mod SettledRecord
-mod LastValues
 mod SurfaceRecord
 mod MissingRecords

@@ -16,9 +16,9 @@ use Rattle.wire.specs.declared.Step.{Step}
 use Rattle.wire.specs.declared.cursor.Cursor.{Cursor}
 use Rattle.surface_values.specs.Contracts.{StringsAt}
 use Rattle.surface_values.proofs.SurfaceBody.{no-strings, body-judged}
-use Rattle.load_records.specs.declared.last_values.LastValues.{LastValues}
+use Rattle.load_values.specs.declared.last_values.LastValues.{LastValues}
 use Rattle.load_records.specs.declared.record.Record.{Record}
-use Rattle.load_records.specs.LastValues.{takenOf, LastAt}
+use Rattle.load_values.specs.LastValues.{takenOf, LastAt}
 use Rattle.load_records.specs.Contracts.{recordFrom, RecordIs, RecordAt}
 use Rattle.load_records.proofs.SettledRecord.{record-from}
 

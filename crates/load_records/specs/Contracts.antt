@@ -12,9 +12,9 @@ use Rattle.format.specs.Surfaces.{bit, recordOf}
 use Rattle.format.specs.Bodies.{Part, pointList, nameList, polygonList, tagging, surface, skippedChunk, surfaceBody}
 use Rattle.format.specs.Contracts.{Judged}
 use Rattle.surface_levels.specs.Levels.{HasBits, bits}
-use Rattle.load_records.specs.declared.last_values.Last.{Last}
+use Rattle.load_values.specs.declared.last_values.Last.{Last}
 use Rattle.load_records.specs.declared.record.Record.{Record}
-use Rattle.load_records.specs.LastValues.{LevelWords, Taken, noWords, wordOf}
+use Rattle.load_values.specs.LastValues.{LevelWords, Taken, noWords, wordOf}
 
 -- ---- a record
 

@@ -1,2 +1,1 @@
-pub mod LastValues
 pub mod Contracts

@@ -5,13 +5,13 @@ ghost use Rattle.format.specs.Items.{whole};
 ghost use Rattle.format.specs.Bodies.{surfaceBody};
 ghost use Rattle.format.specs.Contracts.{Succeeds};
 ghost use Rattle.surface_levels.specs.Levels.{HasBits, bits};
-ghost use Rattle.load_records.specs.LastValues.{LastLevelsHaveBits, LastValuesHaveBits, levelWords, takenOf};
+ghost use Rattle.load_values.specs.LastValues.{LastLevelsHaveBits, LastValuesHaveBits, levelWords, takenOf};
 ghost use Rattle.load_records.specs.Contracts.{LevelIs, GlowIs, sidesIn, settledOf, recordFrom, RecordIs, MissingIs, RecordAt};
-use crate::last_values::Last;
-use crate::last_values::LastValues;
-use crate::last_values::Levels;
-use crate::last_values::last_values;
 use format::Kind;
+use load_values::last_values::Last;
+use load_values::last_values::LastValues;
+use load_values::last_values::Levels;
+use load_values::last_values::last_values;
 use surface_values::strings::strings;
 use wire::Step;
 

@@ -20,7 +20,7 @@ use Rattle.format.proofs.Facts.{length-each, length-joined}
 use Rattle.format.proofs.Indexed.{pieces-back}
 use Rattle.format.proofs.Puts.{joined-map-append}
 use Rattle.format.proofs.Verdicts.{same-fine}
-use Rattle.wire.proofs.FileWalk.{WalkedTo, ChunkHere, begin, end, after-chunk}
+use Rattle.headers.proofs.FileWalk.{WalkedTo, ChunkHere, begin, end, after-chunk}
 use Rattle.load_surfaces.specs.Contracts.{withRecord, withSurfaces, ListedRoom, SurfacesPut, fileRecords, RecordsRoom}
 
 -- ---- the names in their tables

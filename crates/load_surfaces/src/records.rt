@@ -6,14 +6,14 @@ ghost use Rattle.load_records.specs.Contracts.{LevelsHaveBits, surfaceOf};
 ghost use Rattle.load_surfaces.specs.Contracts.{withRecord, ListedRoom, ChunkSound, SurfacesPut, fileRecords, RecordsRoom};
 use format::Kind;
 use format::tags::SURF;
+use headers::Header;
+use headers::chunk_at;
 use load_records::record::Record;
 use load_records::record::record_of;
 use load_records::table::put_missing;
 use load_records::table::store;
 use wire::cursor::Cursor;
 use wire::cursor::Text;
-use wire::header::Header;
-use wire::header::chunk_at;
 use words::same_bytes;
 
 // Stores the record at each listed name that is equal to `name`. The lengths cut the listed names from the bytes.

@@ -14,7 +14,7 @@ use Rattle.format.specs.Surfaces.{value, unlisted, byteColour, shortLevel, long
 use Rattle.format.specs.Contracts.{itself, Says, ReadsAt, taking, got}
 use Rattle.format.proofs.ReaderSteps.{exact, given, used-up, judged-on}
 use Rattle.wire.specs.declared.cursor.Cursor.{Cursor}
-use Rattle.wire.proofs.Headers.{four-bytes}
+use Rattle.format.proofs.Indexed.{four-at}
 use Rattle.surface_levels.specs.declared.level.FloatRead.{FloatRead}
 use Rattle.surface_levels.specs.declared.shading.Shading.{Shading}
 use Rattle.surface_levels.specs.declared.value.Value.{Value}
@@ -37,7 +37,7 @@ module _ {s : List ℕ} {head : ℕ} where
   colour-value {r} {g} {b} n x y z =
       let long : head + 10 ≤ length s = omega arith in
       let words : map over255 (take 3 (take 4 (drop (head + 6) s))) ≡ bits r ∷ bits g ∷ bits b ∷ [] =
-      rw (four-bytes s (head + 6) (omega arith), x .is, y .is, z .is) in
+      rw (four-at s (head + 6) (omega arith), x .is, y .is, z .is) in
       record {
         judged = fitted 4 _ n (judged-on _ (bytes-there head long) (used-up (given (ap (value colourTag) words)) (omega arith)));
         hasBits = (x .hasBits, y .hasBits, z .hasBits);

@@ -13,6 +13,7 @@ use Rattle.format.specs.Mesh.{Polygon, word, polygonSize, polygonFrom}
 use Rattle.format.specs.Canonical.{ahead, runs}
 use Rattle.format.specs.Written.{pieces, entries, polygonsFrom, vertexCounts}
 use Rattle.format.proofs.Facts.{sum-append}
+use Rattle.format.proofs.Indexed.{part-of-front}
 use Rattle.mesh.specs.Lent.{entryAt, column, meshPolygons}
 use Rattle.mesh.proofs.Entries.{first, entries-none, length-entries, column-at, column-past, polygons-at}
 use Rattle.mesh.specs.Polygons.{leading, runEnd}
@@ -58,9 +59,6 @@ length-polygons ws vs = sym (length-map (meshPolygons ws vs) kindOf) ∙ ap leng
 
 -- ---- the entries of j polygons in front and of the rest
 
-front-of : (b n : ℕ) (vs : List ℕ) → b ≤ length vs → drop b (take (b + n) vs) ≡ take n (drop b vs)
-front-of b n vs fits = rw (take-add b n vs) (drop-at (take b vs) (take n (drop b vs)) b (length-take-le b vs fits))
-
 entries-split : (j : ℕ) (ws : List ℕ) → j * polygonSize ≤ length ws
     → entries polygonSize ws ≡ entries polygonSize (take (j * polygonSize) ws) ++ entries polygonSize (drop (j * polygonSize) ws)
 entries-split zero ws fits = rw (entries-none polygonSize [] (omega arith))
@@ -70,7 +68,7 @@ entries-split (suc j) ws fits =
     let long : length (take (polygonSize + k) ws) ≡ polygonSize + k = length-take-le (polygonSize + k) ws (omega arith) in
     let one = first polygonSize ws (omega arith) (omega arith) in
     let in-front = first polygonSize (take (polygonSize + k) ws) (omega arith) (omega (arith, long)) in
-    rw (k-is, one, in-front, take-take polygonSize (polygonSize + k) ws (omega arith), front-of polygonSize k ws (omega arith), ← drop-drop k polygonSize ws)
+    rw (k-is, one, in-front, take-take polygonSize (polygonSize + k) ws (omega arith), part-of-front polygonSize k ws (omega arith), ← drop-drop k polygonSize ws)
     (ap (λ (l : List (List ℕ)). take polygonSize ws ∷ l) (entries-split j (drop polygonSize ws) (omega (arith, length-drop polygonSize ws))))
 
 counts-split : (j : ℕ) (ws : List ℕ) → j * polygonSize ≤ length ws
@@ -90,7 +88,7 @@ made-append [] fs vs fits = refl
 made-append (e ∷ es) fs vs fits =
     let c : ℕ = word 1 e in
     let m : ℕ = sum (map (word 1) es) in
-    rw (take-take c (c + m) vs (omega arith), front-of c m vs (omega arith), ← drop-drop m c vs)
+    rw (take-take c (c + m) vs (omega arith), part-of-front c m vs (omega arith), ← drop-drop m c vs)
     (ap (λ (l : List Polygon). polygonFrom e (take c vs) ∷ l) (made-append es fs (drop c vs) (omega (arith, length-drop c vs))))
 
 record Split (j : ℕ) (ws vs : List ℕ) (n : ℕ) : Type 0 where

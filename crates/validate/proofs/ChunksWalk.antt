@@ -19,9 +19,9 @@ use Rattle.format.proofs.Verdicts.{fine-with, stopped, then-same, then-then}
 use Rattle.format.proofs.Tiling.{none, no-chunk}
 use Rattle.wire.specs.declared.Refusal.{Refusal}
 use Rattle.wire.specs.declared.cursor.Cursor.{Cursor}
-use Rattle.wire.specs.declared.header.Header.{Header}
-use Rattle.wire.specs.Contracts.{HeaderAt}
-use Rattle.wire.proofs.ChunkInFile.{body, front, size, long}
+use Rattle.headers.specs.declared.Header.{Header}
+use Rattle.headers.specs.Contracts.{HeaderAt}
+use Rattle.headers.proofs.ChunkInFile.{body, front, size, long}
 use Rattle.validate_chunk.specs.Contracts.{countedOf, beforeOf}
 use Rattle.validate.specs.declared.counts.Totals.{Totals}
 use Rattle.validate.specs.declared.counts.Seen.{Seen}

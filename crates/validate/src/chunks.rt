@@ -10,12 +10,12 @@ use crate::counts::nothing_seen;
 use crate::counts::seen_with;
 use format::Fault;
 use format::Kind;
+use headers::Header;
+use headers::chunk_at;
 use validate_chunk::chunk::Judgement;
 use validate_chunk::chunk::judge;
 use wire::Refusal;
 use wire::cursor::Cursor;
-use wire::header::Header;
-use wire::header::chunk_at;
 
 // What was seen with one chunk more, or that chunk's fault.
 pub enum StepResult {

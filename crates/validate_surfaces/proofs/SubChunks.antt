@@ -23,9 +23,10 @@ use Rattle.wire.specs.declared.Refusal.{Refusal}
 use Rattle.wire.specs.declared.Checked.{Checked}
 use Rattle.wire.specs.declared.cursor.Cursor.{Cursor}
 use Rattle.wire.specs.declared.cursor.Text.{Text}
-use Rattle.wire.specs.declared.header.Header.{Header}
-use Rattle.wire.specs.Contracts.{TextAt, HeaderAt, checkedAs}
-use Rattle.wire.proofs.Headers.{sub-bad, sub-fine, sub-stop}
+use Rattle.headers.specs.declared.Header.{Header}
+use Rattle.wire.specs.Contracts.{TextAt, checkedAs}
+use Rattle.headers.specs.Contracts.{HeaderAt}
+use Rattle.headers.proofs.Headers.{sub-bad, sub-fine, sub-stop}
 use Rattle.surface_levels.specs.declared.value.Value.{Value}
 use Rattle.surface_levels.specs.declared.value.ValueResult.{ValueResult}
 use Rattle.validate_surfaces.specs.declared.nesting.Body.{Body}

@@ -16,6 +16,8 @@ use format::tags::IMAP;
 use format::tags::PROC;
 use format::tags::SHDR;
 use format::tags::TMAP;
+use headers::Header;
+use headers::sub_at;
 use surface_levels::value::ValueResult;
 use surface_values::value::value_of;
 use wire::Checked;
@@ -23,8 +25,6 @@ use wire::Refusal;
 use wire::cursor::Cursor;
 use wire::cursor::Text;
 use wire::cursor::left;
-use wire::header::Header;
-use wire::header::sub_at;
 
 // What is left to check of a sub-chunk's body: nothing, or the sub-chunks that it holds from a place on.
 pub enum Body {

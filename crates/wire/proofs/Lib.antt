@@ -1,7 +1,4 @@
 mod Halves
-pub mod Headers
 pub mod FirstItem
 pub mod ReadAgain
 pub mod Items
-pub mod ChunkInFile
-pub mod FileWalk

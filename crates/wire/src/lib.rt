@@ -1,9 +1,8 @@
-// The bytes of a file as the specification's items and headers. A chunk is lent as its bytes from its tag on, and a cursor is a place in them.
+// The bytes of a file as the specification's items. A chunk is lent as its bytes from its tag on, and a cursor is a place in them.
 use crate::cursor::Cursor;
 use format::Fault;
 
 pub mod cursor;
-pub mod header;
 
 // The first fault, and the place of the header, item or string at fault, counted from the chunk's tag.
 pub struct Refusal {

@@ -6,10 +6,10 @@ use mathlib.Core.List.{List}
 use mathlib.Core.Bool.{true}
 use native.Mathlib.Omega.{arith}
 use lib.ListN.{length, take, drop}
-use Rattle.wire.specs.declared.header.Header.{Header}
-use Rattle.wire.specs.Contracts.{HeaderAt}
+use Rattle.headers.specs.declared.Header.{Header}
+use Rattle.headers.specs.Contracts.{HeaderAt}
 use Rattle.format.specs.Rules.{namesTag}
-use Rattle.wire.proofs.FileWalk.{ChunkHere, never-bad, chunk-here}
+use Rattle.headers.proofs.FileWalk.{ChunkHere, never-bad, chunk-here}
 use Rattle.load_lists.proofs.NamesWalk.{NoNamesTo, none-at-start, unlisted, other, names-room, found}
 use Rattle.load_lists.proofs.names.fill_names.Statement.{statement}
 use Rattle.load_lists.proofs.names.fill_names.Tie as tie

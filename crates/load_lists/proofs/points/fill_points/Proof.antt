@@ -4,8 +4,8 @@ use Prim.Native.Nat.{ℕ, _-_}
 use mathlib.Core.List.{List}
 use native.Mathlib.Omega.{arith}
 use lib.ListN.{length}
-use Rattle.wire.specs.declared.header.Header.{Header}
-use Rattle.wire.specs.Contracts.{HeaderAt}
+use Rattle.headers.specs.declared.Header.{Header}
+use Rattle.headers.specs.Contracts.{HeaderAt}
 use Rattle.load_lists.proofs.PointsWalk.{PointsPutTo, begin, end, never-bad, chunk-room, turn}
 use Rattle.load_lists.proofs.points.fill_points.Statement.{statement}
 use Rattle.load_lists.proofs.points.fill_points.Tie as tie

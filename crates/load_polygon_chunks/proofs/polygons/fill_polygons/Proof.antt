@@ -4,10 +4,10 @@ use Prim.Native.Nat.{ℕ, _-_}
 use mathlib.Core.List.{List}
 use native.Mathlib.Omega.{arith}
 use lib.ListN.{length}
-use Rattle.wire.specs.declared.header.Header.{Header}
-use Rattle.wire.specs.Contracts.{HeaderAt}
+use Rattle.headers.specs.declared.Header.{Header}
+use Rattle.headers.specs.Contracts.{HeaderAt}
 use Rattle.load_polygon_chunks.proofs.PolygonsWalk.{PolygonsTo, begin, end, part-room, turn}
-use Rattle.wire.proofs.FileWalk.{never-bad}
+use Rattle.headers.proofs.FileWalk.{never-bad}
 use Rattle.load_polygon_chunks.proofs.polygons.fill_polygons.Statement.{statement}
 use Rattle.load_polygon_chunks.proofs.polygons.fill_polygons.Tie as tie
 

@@ -6,9 +6,9 @@ use mathlib.Core.List.{List}
 use native.Mathlib.Omega.{arith}
 use lib.ListN.{length}
 use lib.Seq.{length-take-le}
-use Rattle.wire.specs.declared.header.Header.{Header}
-use Rattle.wire.specs.Contracts.{HeaderAt}
-use Rattle.wire.proofs.FileWalk as walk
+use Rattle.headers.specs.declared.Header.{Header}
+use Rattle.headers.specs.Contracts.{HeaderAt}
+use Rattle.headers.proofs.FileWalk as walk
 use Rattle.load_surfaces.proofs.SurfacesWalk.{RecordsTo, all-missing-first, kept, listed-room, turn, all-stored}
 use Rattle.load_surfaces.proofs.records.fill_records.Statement.{statement}
 use Rattle.load_surfaces.proofs.records.fill_records.Tie as tie

@@ -3,10 +3,10 @@ use borrow.Author.Needs.{needs}
 use Prim.Native.Nat.{_-_}
 use native.Mathlib.Omega.{arith}
 use lib.ListN.{length}
-use Rattle.wire.specs.declared.header.Header.{Header}
-use Rattle.wire.specs.Contracts.{HeaderAt}
+use Rattle.headers.specs.declared.Header.{Header}
+use Rattle.headers.specs.Contracts.{HeaderAt}
 use Rattle.validate.proofs.ChunksWalk.{CountedTo, begin, end, no-header, stop, turn}
-use Rattle.wire.proofs.ChunkInFile.{long}
+use Rattle.headers.proofs.ChunkInFile.{long}
 use Rattle.validate.proofs.chunks.validate_chunks.Statement.{statement}
 use Rattle.validate.proofs.chunks.validate_chunks.Tie as tie
 

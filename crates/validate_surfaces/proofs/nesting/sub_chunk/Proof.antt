@@ -1,7 +1,7 @@
 -- The header is judged, and then the body up to its end.
 use Rattle.validate_surfaces.proofs.SubChunks.{no-header, sub-stops, sub-judged, sub-holds}
-use Rattle.wire.specs.declared.header.Header.{Header}
-use Rattle.wire.specs.Contracts.{HeaderAt}
+use Rattle.headers.specs.declared.Header.{Header}
+use Rattle.headers.specs.Contracts.{HeaderAt}
 use native.Mathlib.Omega.{arith}
 use mathlib.Core.Path.{_≡_, sym}
 use mathlib.Core.List.{List}

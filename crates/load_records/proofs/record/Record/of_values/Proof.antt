@@ -1,6 +1,7 @@
 -- What goes by kind of file is put in by the case: LWO2 has no float forms of its own.
 use lib.Ieee.{ofBits, isNan}
-use Rattle.load_records.proofs.SettledRecord.{none-have-bits, lwob-settled, lwo2-settled}
+use Rattle.load_values.proofs.TakenValues.{none-have-bits}
+use Rattle.load_records.proofs.SettledRecord.{lwob-settled, lwo2-settled}
 use borrow.Author.Needs.{needs}
 use Rattle.load_records.proofs.record.Record.of_values.Statement.{statement}
 use Rattle.load_records.proofs.record.Record.of_values.Tie as tie

@@ -1,0 +1,2 @@
+pub mod TakenValues
+mod LastValues
