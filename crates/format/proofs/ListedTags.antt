@@ -12,7 +12,8 @@ use Rattle.format.specs.Bytes.{if_then_else_, _is_, number, all, sum, jo
 use Rattle.format.specs.Items.{Verdict, fine, fault, _andThen_, _>>=_, _or_unless_, whole, upTo, many, item, uint, string, toZero}
 use Rattle.format.specs.Chunks.{ofLength}
 use Rattle.format.specs.Bodies.{Part, pointList, nameList, polygonList, tagging, surface, skippedChunk, wholePoints, pointsBody, namesAfter, namesBody, facesBody, patchesBody, polygonsBody, taggingBody, surfaceStrings, surfaceBody}
-use Rattle.format.specs.Rules.{Before, start, there, count, ListedTag, listedTags, unlistedTag, namesTag, judgedBy, when_read_, judge}
+use Rattle.format.specs.Rules.{Before, start, there, count, ListedTag, listedTags, unlistedTag, judgedBy, when_read_, judge}
+use Rattle.format.specs.Contracts.{namesTag}
 use Rattle.format.proofs.Facts.{all-first, all-rest}
 
 -- ---- by tag

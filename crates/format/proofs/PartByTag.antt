@@ -14,7 +14,8 @@ use Rattle.format.specs.Items.{Verdict, fine, fault, Got, Reader, _>>=_,
 use Rattle.format.specs.Chunks.{headerOf, ofLength}
 use Rattle.format.specs.Mesh.{Point, Polygon, Name}
 use Rattle.format.specs.Bodies.{Part, SurfaceChunk, pointList, nameList, polygonList, tagging, surface, skippedChunk, pointsBody, namesBody, facesBody, patchesBody, polygonsBody, taggingBody, surfaceBody}
-use Rattle.format.specs.Rules.{Before, namesTag, there, count, when_read_, judge}
+use Rattle.format.specs.Rules.{Before, there, count, when_read_, judge}
+use Rattle.format.specs.Contracts.{namesTag}
 use Rattle.format.proofs.Facts.{impossible}
 use Rattle.format.proofs.ListedTags.{judge-cases}
 use Rattle.format.proofs.Verdicts.{then-fine, chosen, same-fine}

@@ -3,9 +3,12 @@
 -- place.
 use Prim.Native.Nat.{ℕ, _+_, _*_, _≤_}
 use mathlib.Core.Path.{_≡_}
+use mathlib.Core.Bool.{Bool}
 use mathlib.Core.List.{List, [], _++_, map}
+use lib.Dec.{eqb}
 use lib.ListN.{length, take, drop}
 use Rattle.format.specs.declared.Kind.{Kind}
+use Rattle.format.specs.declared.Kind.the-variants.{LWOB, LWO2}
 use Rattle.format.specs.Bytes.{tagNumber, sum, joined}
 use Rattle.format.specs.Items.{Verdict, fine, fault, _andThen_, Got, Reader, _>>=_, give, many, whole}
 use Rattle.format.specs.Chunks.{Chunks, chunks}
@@ -126,6 +129,11 @@ pub record FileRoom (words : List Part → List ℕ) (kind : Kind) (file table :
 -- these words stand in the table from its front on, and the rest of it is unchanged
 pub record FilePut (words : List Part → List ℕ) (kind : Kind) (file table table′ : List ℕ) : Type 0 where
   pub put : (parts : List Part) → fileParts kind file ≡ fine parts → Put table 0 (words parts) table′
+
+-- the tag of the chunk that holds the names: SRFS in LWOB, TAGS in LWO2
+abbrev pub namesTag : Kind → (tag : ℕ) → Bool
+namesTag LWOB t = eqb t (tagNumber "SRFS")
+namesTag LWO2 t = eqb t (tagNumber "TAGS")
 
 -- the names of a file
 abbrev pub allNames : List Part → List Name

@@ -82,11 +82,6 @@ listedTags LWO2 =
 abbrev pub unlistedTag : Kind → (tag : ℕ) → Bool
 unlistedTag kind t = all (λ l. not (t is l .tag)) (listedTags kind)
 
--- the chunk that holds the names: SRFS in LWOB, TAGS in LWO2
-abbrev pub namesTag : Kind → (tag : ℕ) → Bool
-namesTag LWOB t = t is "SRFS"
-namesTag LWO2 t = t is "TAGS"
-
 -- "Unlisted tags are skipped; top-level ones are counted as skipped."
 abbrev pub judgedBy : List ListedTag → Before → (tag : ℕ) → List ℕ → Verdict Part
 judgedBy [] b t = λ body. fine skippedChunk

@@ -106,8 +106,8 @@ block inner at s = if empty s then fault SurfaceValue (headerOf 2 at) else (do v
 
 -- "BLOK, only in SURF"; its first sub-chunk is the one whose header follows its own, and "a later one is unlisted"
 unfoldable pub held : (inner : Container → Reader (List Value)) → Container → (tag : ℕ) → Reader (List Value)
-held inner (Surf LWOB) t = lwobValue t
-held inner (Surf LWO2) t = if t is "BLOK" then block inner else lwo2Value t
+held inner (Surf LWOB) t = valueOf LWOB t
+held inner (Surf LWO2) t = if t is "BLOK" then block inner else valueOf LWO2 t
 held inner (Blok blok) t = λ at. if eqb (headerOf 2 at) (blok + 6) then blockHeader inner blok t at else attribute inner t at
 held inner Attributes t = attribute inner t
 

@@ -11,8 +11,8 @@ use Rattle.format.specs.Items.{fine}
 use Rattle.format.specs.Chunks.{chunks}
 use Rattle.format.specs.Mesh.{Name}
 use Rattle.format.specs.Bodies.{Part, nameList, namesBody}
-use Rattle.format.specs.Rules.{added, Before, start, after, judge, namesTag, namesOf}
-use Rattle.format.specs.Contracts.{Put, walkParts, fileParts, FileRoom, FilePut, allNames}
+use Rattle.format.specs.Rules.{added, Before, start, after, judge, namesOf}
+use Rattle.format.specs.Contracts.{Put, walkParts, fileParts, FileRoom, FilePut, allNames, namesTag}
 use Rattle.format.proofs.Facts.{impossible}
 use Rattle.format.proofs.Puts.{joined-map-append, put-none}
 use Rattle.format.proofs.Verdicts.{same-fine}

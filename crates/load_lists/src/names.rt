@@ -2,8 +2,7 @@
 ghost use mathlib.Core.Path.{_≡_};
 ghost use Prim.Native.Nat.{_+_, _≤_};
 ghost use lib.ListN.{length, take, drop};
-ghost use Rattle.format.specs.Rules.{namesTag};
-ghost use Rattle.format.specs.Contracts.{Put, FileRoom, FilePut};
+ghost use Rattle.format.specs.Contracts.{Put, FileRoom, FilePut, namesTag};
 ghost use Rattle.load_lists.specs.Contracts.{NamesRoom, NamesPut, fileNameLengths, fileNameBytes};
 use format::Kind;
 use format::tags::SRFS;

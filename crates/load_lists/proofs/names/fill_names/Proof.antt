@@ -8,7 +8,7 @@ use native.Mathlib.Omega.{arith}
 use lib.ListN.{length, take, drop}
 use Rattle.headers.specs.declared.Header.{Header}
 use Rattle.headers.specs.Contracts.{HeaderAt}
-use Rattle.format.specs.Rules.{namesTag}
+use Rattle.format.specs.Contracts.{namesTag}
 use Rattle.headers.proofs.FileWalk.{ChunkHere, never-bad, chunk-here}
 use Rattle.load_lists.proofs.NamesWalk.{NoNamesTo, none-at-start, unlisted, other, names-room, found}
 use Rattle.load_lists.proofs.names.fill_names.Statement.{statement}
