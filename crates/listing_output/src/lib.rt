@@ -2,14 +2,17 @@
 ghost use Prim.Native.Nat.{_<_};
 ghost use Rattle.io.specs.Counts.{Counts};
 ghost use Rattle.listing_output.specs.Program.{inputLimit, PrintsInput};
+use format::POINT_WORDS;
+use format::POLYGON_WORDS;
+use format::RECORD_WORDS;
 use listing_answer::put_listing;
 use output::items::put_bytes;
 use reader::read;
 
 // 5,461 points, 4,096 polygons, 16,384 vertices, 256 names with their records, and 8,192 name bytes.
-pub const POINTS: usize = 16383;
+pub const POINTS: usize = 5461 * POINT_WORDS;
 
-pub const POLYGONS: usize = 12288;
+pub const POLYGONS: usize = 4096 * POLYGON_WORDS;
 
 pub const VERTICES: usize = 16384;
 
@@ -17,7 +20,7 @@ pub const NAMES: usize = 256;
 
 pub const NAME_BYTES: usize = 8192;
 
-pub const RECORDS: usize = 2560;
+pub const RECORDS: usize = 256 * RECORD_WORDS;
 
 // 214 bytes for the counts, 93 for each polygon and 21 for each vertex: no listing is longer.
 pub const OUTPUT: usize = 725206;

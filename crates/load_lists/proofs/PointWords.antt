@@ -13,7 +13,7 @@ use Rattle.format.specs.declared.Fault.the-variants.{ItemCut, NotFinite, WrongL
 use Rattle.format.specs.Bytes.{number, finite, empty, joined}
 use Rattle.format.specs.Items.{_or_unless_, fine, Got, _>>=_, give, whole, upTo, many, item, uint, float}
 use Rattle.format.specs.Chunks.{ofLength}
-use Rattle.format.specs.Mesh.{Point, pointWords}
+use Rattle.format.specs.Mesh.{Point, pointWords, pointSize}
 use Rattle.format.specs.Bodies.{pointList, point, wholePoints, pointsBody}
 use Rattle.format.proofs.Verdicts.{then-fine, chosen}
 use Rattle.load_lists.specs.Contracts.{PointsRoom}
@@ -64,7 +64,7 @@ float-front at b g e =
     let l : g .left ≡ drop 4 b = cc (i .1, j .1, y .2) in
     record { long = leb-true 4 (length b) (i .0); value = rw v; left = l }
 
-point-front : (at : ℕ) (b : List ℕ) (g : Got Point) → point at b ≡ fine g → Front 3 pointWords b g
+point-front : (at : ℕ) (b : List ℕ) (g : Got Point) → point at b ≡ fine g → Front pointSize pointWords b g
 unfolding point words _>>=_
 point-front at b g e =
     let x = then-fine (float at b) _ e in
@@ -77,7 +77,7 @@ point-front at b g e =
     let l₂ : y .0 .left ≡ drop 8 b = fy .left ∙ ap (drop 4) l₁ ∙ drop-drop 4 4 b in
     let l₃ : z .0 .left ≡ drop 12 b = fz .left ∙ ap (drop 4) l₂ ∙ drop-drop 4 8 b in
     let made : record { value = record { x = x .0 .value; y = y .0 .value; z = z .0 .value }; next = z .0 .next; left = z .0 .left } ≡ g = cc (z .2) in
-    let three : x .0 .value ∷ y .0 .value ∷ z .0 .value ∷ [] ≡ words 3 b = cc (fx .value, fy .value, fz .value, l₁, l₂, drop-drop 4 4 b) in
+    let three : x .0 .value ∷ y .0 .value ∷ z .0 .value ∷ [] ≡ words pointSize b = cc (fx .value, fy .value, fz .value, l₁, l₂, drop-drop 4 4 b) in
     rw (← made) record {
       long = omega (arith, fx .long, fy .long, fz .long, ap length l₁, ap length l₂, length-drop 4 b, length-drop 8 b);
       value = three;
@@ -90,24 +90,24 @@ abbrev pointsWords : List Point → List ℕ
 pointsWords ps = joined (map pointWords ps)
 
 abbrev PointsFront : (fuel : ℕ) → Type 0
-PointsFront fuel = (at : ℕ) (b : List ℕ) (g : Got (List Point)) → upTo fuel point at b ≡ fine g → Front (length (g .value) * 3) pointsWords b g
+PointsFront fuel = (at : ℕ) (b : List ℕ) (g : Got (List Point)) → upTo fuel point at b ≡ fine g → Front (length (g .value) * pointSize) pointsWords b g
 
 -- a point in front of others
-front-joined : (b : List ℕ) (p : Got Point) → Front 3 pointWords b p → (q : Got (List Point)) → Front (length (q .value) * 3) pointsWords (p .left) q
-    → Front (suc (length (q .value)) * 3) pointsWords b (record { value = p .value ∷ q .value; next = q .next; left = q .left })
+front-joined : (b : List ℕ) (p : Got Point) → Front pointSize pointWords b p → (q : Got (List Point)) → Front (length (q .value) * pointSize) pointsWords (p .left) q
+    → Front (suc (length (q .value)) * pointSize) pointsWords b (record { value = p .value ∷ q .value; next = q .next; left = q .left })
 unfolding joined
 front-joined b p fp q fq =
     let k : ℕ = length (q .value) in
-    let n : suc k * 3 ≡ 3 + k * 3 = omega arith in
-    let four : 3 * 4 + k * 3 * 4 ≡ (3 + k * 3) * 4 = omega arith in
+    let n : suc k * pointSize ≡ pointSize + k * pointSize = omega arith in
+    let four : pointSize * 4 + k * pointSize * 4 ≡ (pointSize + k * pointSize) * 4 = omega arith in
     rw n record {
       long = omega (arith, fp .long, fq .long, ap length (fp .left), length-drop 12 b);
-      value = ap (λ l. l ++ pointsWords (q .value)) (fp .value) ∙ ap (λ l. words 3 b ++ l) (fq .value ∙ ap (words (k * 3)) (fp .left)) ∙ words-more 3 (k * 3) b;
-      left = fq .left ∙ ap (drop (k * 3 * 4)) (fp .left) ∙ drop-drop (k * 3 * 4) 12 b ∙ ap (λ i. drop i b) four;
+      value = ap (λ l. l ++ pointsWords (q .value)) (fp .value) ∙ ap (λ l. words pointSize b ++ l) (fq .value ∙ ap (words (k * pointSize)) (fp .left)) ∙ words-more pointSize (k * pointSize) b;
+      left = fq .left ∙ ap (drop (k * pointSize * 4)) (fp .left) ∙ drop-drop (k * pointSize * 4) 12 b ∙ ap (λ i. drop i b) four;
     }
 
 front-step : (fuel at c : ℕ) (b : List ℕ) (g : Got (List Point)) → PointsFront fuel → upTo (suc fuel) point at (c ∷ b) ≡ fine g
-    → Front (length (g .value) * 3) pointsWords (c ∷ b) g
+    → Front (length (g .value) * pointSize) pointsWords (c ∷ b) g
 unfolding upTo _>>=_
 front-step fuel at c b g later e =
     let x = then-fine (point at (c ∷ b)) _ e in
@@ -116,7 +116,7 @@ front-step fuel at c b g later e =
     rw (← made) (front-joined (c ∷ b) (x .0) (point-front at (c ∷ b) (x .0) (x .1)) (y .0) (later _ _ (y .0) (y .1)))
 
 none-front : (at : ℕ) (b : List ℕ) (g : Got (List Point)) → fine (record { value = []; next = at; left = b }) ≡ fine g
-    → Front (length (g .value) * 3) pointsWords b g
+    → Front (length (g .value) * pointSize) pointsWords b g
 unfolding words joined
 none-front at b g e =
     let made : record { value = []; next = at; left = b } ≡ g = cc in
@@ -145,8 +145,8 @@ bodied kind body ps e =
     let u = chosen (empty (w .0 .left)) (fine (w .0 .value)) WrongLength 0 (w .2) in
     let part : pointList (m .0 .value) ≡ pointList ps = ap (λ g. g .value) made ∙ cc (u .1) in
     let same : m .0 .value ≡ ps = cc in
-    let none : drop (length (m .0 .value) * 3 * 4) body ≡ [] = sym (f .left) ∙ ap (λ g. g .left) made ∙ nothing-left (w .0 .left) (u .0) in
-    let all : length body / 4 ≡ length (m .0 .value) * 3 = omega (arith, f .long, ap length none, length-drop (length (m .0 .value) * 3 * 4) body) in
+    let none : drop (length (m .0 .value) * pointSize * 4) body ≡ [] = sym (f .left) ∙ ap (λ g. g .left) made ∙ nothing-left (w .0 .left) (u .0) in
+    let all : length body / 4 ≡ length (m .0 .value) * pointSize = omega (arith, f .long, ap length none, length-drop (length (m .0 .value) * pointSize * 4) body) in
     record { are = rw (← same, all) (f .value) }
   where
     nothing-left : (l : List ℕ) → empty l ≡ true → l ≡ []
