@@ -1,4 +1,1 @@
-pub mod GoodPolygons
-pub mod NameWalk
-pub mod RecordWalk
 pub mod MeshTests

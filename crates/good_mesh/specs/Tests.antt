@@ -4,11 +4,10 @@ use mathlib.Core.List.{List, [], _∷_}
 use mathlib.Core.Bool.{Bool, _&&_}
 use lib.Dec.{leb, eqb}
 use lib.ListN.{length}
-use Rattle.format.specs.Bytes.{between, every, sum}
-use Rattle.format.specs.Limits.{entryLimit, lwo2VertexLimit, surfaceLimit}
-use Rattle.format.specs.Mesh.{Name, Tables, FACE, PATCH, pointSize, polygonSize, recordSize}
-use Rattle.format.specs.Bodies.{newName}
-use Rattle.format.specs.Written.{vertexCounts, wholeEntries, noZero}
+use Rattle.format.specs.Bytes.{every, sum}
+use Rattle.format.specs.Limits.{entryLimit}
+use Rattle.format.specs.Mesh.{Tables, pointSize, polygonSize, recordSize}
+use Rattle.format.specs.Written.{vertexCounts, wholeEntries}
 
 -- `wholeEntries`, of which a table's length decides
 abbrev pub wholeLength : (n length : ℕ) → Bool
@@ -34,12 +33,3 @@ countsAgree polygons vertices names nameBytes records =
     ∷ eqb (sum names) (length nameBytes)
     ∷ eqb (length records / recordSize) (length names)
     ∷ [])
-
--- what `goodPolygon` asks of the words of an entry
-abbrev pub goodEntry : (nameCount kind count surface : ℕ) → Bool
-goodEntry nameCount kind count surface =
-    every (between FACE PATCH kind ∷ between 1 lwo2VertexLimit count ∷ leb surface nameCount ∷ leb surface surfaceLimit ∷ [])
-
--- one name's part of `goodNames`
-abbrev pub goodName : (earlier : List Name) → Name → Bool
-goodName earlier n = newName earlier n && noZero n

@@ -6,20 +6,15 @@ ghost use Rattle.format.specs.Limits.{entryLimit};
 ghost use Rattle.format.specs.Mesh.{polygonSize, lent};
 ghost use Rattle.format.specs.Written.{isMesh};
 ghost use Rattle.good_mesh.specs.Tests.{wholeLength, wholeTables, countsAgree};
-use crate::floats::all_finite;
-use crate::names::good_names;
-use crate::polygons::good_polygons;
-use crate::records::good_records;
 use format::POINT_WORDS;
 use format::POLYGON_WORDS;
 use format::RECORD_WORDS;
+use good_entries::floats::all_finite;
+use good_entries::names::good_names;
+use good_entries::polygons::good_polygons;
+use good_entries::records::good_records;
 use mesh::columns::sum_of;
 use mesh::polygons::vertex_count;
-
-pub mod floats;
-pub mod names;
-pub mod polygons;
-pub mod records;
 
 // A table of this length has whole entries of `size` words, and not too many of them.
 fn whole_entries(length: usize, size: usize) -> bool

@@ -1,0 +1,3 @@
+pub mod GoodPolygons
+pub mod NameWalk
+pub mod RecordWalk

@@ -1,0 +1,10 @@
+-- The ten words of the missing record are compared by bits.
+use borrow.Author.Needs.{needs}
+use Rattle.good_entries.proofs.records.is_missing.Statement.{statement}
+use Rattle.good_entries.proofs.records.is_missing.Tie as tie
+
+returns : tie.Need-returns
+returns c = c .same-words .ensures
+
+pub is-missing-spec : {M : Type 1} → statement M
+is-missing-spec = tie.close (tie.spec (λ c. search needs) (λ c κs. search needs) returns)
