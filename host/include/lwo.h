@@ -95,8 +95,8 @@ uint32_t lwo_version(void);
 /*
  * The stack that a call of either function takes at most, in bytes; it does not
  * grow with the file. Measured over generated files of every kind up to the
- * longest: lwo_read took 1,040 bytes and lwo_write 424, or 3,592 where the dynamic
- * linker has to look up memcpy, which is called there for the first time.
+ * longest: lwo_read took 1,496 bytes and lwo_write 3,528, most of them for the
+ * dynamic linker, which looks up memcpy where it is called for the first time.
  */
 #define LWO_STACK_BYTES 16384
 
