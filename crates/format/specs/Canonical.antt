@@ -47,20 +47,21 @@ pairBytes t = vxBytes (t .0) ++ bytes 2 (t .1 - 1)
 unfoldable pub levelBytes : String → List ℕ → List ℕ
 levelBytes tag levels = chunkBytes 2 tag (joined (map (bytes 4) levels) ++ vxBytes 0)
 
--- "empty source, COLR, DIFF, LUMI, SPEC, REFL, TRAN, SIDE"
-unfoldable pub surfaceBytes : Name → Surface → List ℕ
-surfaceBytes n s =
-    joined
-    (stringBytes n
-    ∷ stringBytes []
-    ∷ levelBytes "COLR" (s .red ∷ s .green ∷ s .blue ∷ [])
+-- "COLR, DIFF, LUMI, SPEC, REFL, TRAN, SIDE"
+abbrev pub valueChunks : Surface → List (List ℕ)
+valueChunks s =
+    levelBytes "COLR" (s .red ∷ s .green ∷ s .blue ∷ [])
     ∷ levelBytes "DIFF" (s .diffuse ∷ [])
     ∷ levelBytes "LUMI" (s .luminosity ∷ [])
     ∷ levelBytes "SPEC" (s .specular ∷ [])
     ∷ levelBytes "REFL" (s .reflection ∷ [])
     ∷ levelBytes "TRAN" (s .transparency ∷ [])
     ∷ chunkBytes 2 "SIDE" (bytes 2 (s .sides))
-    ∷ [])
+    ∷ []
+
+-- "empty source, COLR, DIFF, LUMI, SPEC, REFL, TRAN, SIDE"
+unfoldable pub surfaceBytes : Name → Surface → List ℕ
+surfaceBytes n s = joined (stringBytes n ∷ stringBytes [] ∷ valueChunks s)
 
 -- ---- the chunks of the file
 

@@ -18,7 +18,7 @@ use Rattle.format.specs.Chunks.{sub, fixed}
 use Rattle.format.specs.Mesh.{Point, pointWords, pointFrom, Polygon, polygonOf, FACE, PATCH, Name, Surface, levels}
 use Rattle.format.specs.Surfaces.{Value, value, sideNumber, lwo2Value, held, nested, lastOf, recordOf}
 use Rattle.format.specs.Bodies.{Part, SurfaceChunk, pointList, nameList, polygonList, tagging, surface, point, wholePoints, pointsBody, newName, name, namesAfter, namesBody, vertex, countBits, lwo2Vertices, polygon, polygonType, polygonKind, polygonsBody, pair, taggingBody, surfaceStrings, surfaceBody}
-use Rattle.format.specs.Canonical.{bytes, vxBytes, stringBytes, chunkBytes, pointBytes, polygonBytes, typeOf, pairsOf, pairBytes, levelBytes, surfaceBytes}
+use Rattle.format.specs.Canonical.{bytes, vxBytes, stringBytes, chunkBytes, pointBytes, polygonBytes, typeOf, pairsOf, pairBytes, levelBytes, valueChunks, surfaceBytes}
 use Rattle.format.specs.Written.{goodPolygon, noZero, goodNames}
 use Rattle.format.proofs.Facts.{every-at, all-first, all-rest, all-part, between-true, length-each}
 use Rattle.laws.proofs.Reading.{ReadsAs, Ends, ends, reads-give, reads-then, ends-then, reads-as, ends-as, reads-unless, Row, none, more, reads-times, ends-many, rows, rows-same}
@@ -226,16 +226,7 @@ ends-sides t n ok =
     (ends (reads-as (λ n. value t (n ∷ [])) (reads-unless SurfaceValue sideNumber (reads-uint 2 n (side-small n ok)) ok)))
 
 row-values : (s : Surface) → all finite (levels s) ≡ true → sideNumber (s .sides) ≡ true
-    → Row (sub values)
-    (levelBytes "COLR" (s .red ∷ s .green ∷ s .blue ∷ [])
-    ∷ levelBytes "DIFF" (s .diffuse ∷ [])
-    ∷ levelBytes "LUMI" (s .luminosity ∷ [])
-    ∷ levelBytes "SPEC" (s .specular ∷ [])
-    ∷ levelBytes "REFL" (s .reflection ∷ [])
-    ∷ levelBytes "TRAN" (s .transparency ∷ [])
-    ∷ chunkBytes 2 "SIDE" (bytes 2 (s .sides))
-    ∷ [])
-    (valuesOf s)
+    → Row (sub values) (valueChunks s) (valuesOf s)
 unfolding valuesOf held lwo2Value number all floats
 row-values s known sides =
     let finites : (i n : ℕ) → all finite (take n (drop i (levels s))) ≡ true = λ i n. all-part finite (levels s) i n known in

@@ -1,12 +1,12 @@
 -- The parts of SURF chunks as they are put into the output, and the room that they take.
 use Prim.Native.Nat.{ℕ, _+_, _*_, _≤_}
 use mathlib.Core.Path.{_≡_}
-use mathlib.Core.List.{List, [], _∷_, _++_, map}
+use mathlib.Core.List.{List, [], _++_, map}
 use lib.Dec.{eqb}
 use lib.ListN.{length}
 use Rattle.format.specs.Bytes.{if_then_else_, sum, joined}
 use Rattle.format.specs.Mesh.{Name, Surface, recordSize}
-use Rattle.format.specs.Canonical.{bytes, vxBytes, chunkBytes, levelBytes, surfaceBytes, surfaceChunks}
+use Rattle.format.specs.Canonical.{bytes, vxBytes, chunkBytes, valueChunks, surfaceBytes, surfaceChunks}
 use Rattle.format.specs.Written.{pieces}
 use Rattle.mesh.specs.Lent.{meshSurfaces}
 use Rattle.output.specs.Outputs.{chunksBytes, taggedBytes}
@@ -17,16 +17,7 @@ levelsBytes tag levels = taggedBytes 2 tag (joined (map (bytes 4) levels) ++ vxB
 
 -- what stands behind the two strings of a SURF
 unfoldable pub valueBytes : Surface → List ℕ
-valueBytes s =
-    joined
-    (levelBytes "COLR" (s .red ∷ s .green ∷ s .blue ∷ [])
-    ∷ levelBytes "DIFF" (s .diffuse ∷ [])
-    ∷ levelBytes "LUMI" (s .luminosity ∷ [])
-    ∷ levelBytes "SPEC" (s .specular ∷ [])
-    ∷ levelBytes "REFL" (s .reflection ∷ [])
-    ∷ levelBytes "TRAN" (s .transparency ∷ [])
-    ∷ chunkBytes 2 "SIDE" (bytes 2 (s .sides))
-    ∷ [])
+valueBytes s = joined (valueChunks s)
 
 -- a SURF is put for a defined name
 abbrev pub surfaceChunk : Name → Surface → List ℕ
