@@ -5,7 +5,7 @@ use mathlib.Core.List.{List, _∷_}
 use mathlib.Core.Bool.{Bool, true, false, not, _||_, true≢false}
 use native.Mathlib.Omega.{arith}
 use lib.Dec.{ltb}
-use lib.ListN.{length, take, drop, length-drop, drop-of-length-le}
+use lib.ListN.{length, take, drop, length-take, length-drop, drop-of-length-le}
 use lib.Seq.{drop-drop}
 use borrow.Author.Tests.{leb-true, ltb-true, ltb-false}
 use Rattle.format.specs.declared.Kind.{Kind}
@@ -13,7 +13,7 @@ use Rattle.format.specs.declared.Fault.{Fault}
 use Rattle.format.specs.declared.Fault.the-variants.{BadHeader}
 use Rattle.format.specs.Bytes.{_is_, number}
 use Rattle.format.specs.Limits.{fileLimit}
-use Rattle.format.specs.Refusals.{numberOf, placeOf}
+use Rattle.format.specs.Refusals.{numberOf, placeOf, ofChunk}
 use Rattle.format.specs.Items.{Verdict, fine, fault, Got, _andThen_}
 use Rattle.format.specs.Chunks.{Chunk, sizeOf, lengthOf, wellFormed, chunkOf, Chunks, finished, broken, chunk, chunks}
 use Rattle.format.specs.Bodies.{Part}
@@ -25,8 +25,8 @@ use Rattle.format.proofs.ChunkWalk.{accepted}
 use Rattle.format.proofs.Tiling as tiling
 use Rattle.format.proofs.Facts.{every-at}
 use Rattle.laws.proofs.Chunks.{chunkIn}
-use Rattle.laws.proofs.Readers.{ofChunk, fault-in-chunk}
-use Rattle.demands.specs.Places.{Boundary, first, next, chunkJudged, FineUpTo, ChunkAtFault}
+use Rattle.laws.proofs.Readers.{fault-in-chunk}
+use Rattle.demands.specs.Places.{Boundary, first, next, chunkJudged, FineUpTo, StartsAt, endOf}
 use Rattle.demands.specs.Places as places
 
 -- ---- one chunk, by its place in the file
@@ -38,10 +38,13 @@ sizeAt file place = sizeOf 4 (lengthOf 4 (drop place file))
 pub record Whole (file : List ℕ) (place : ℕ) : Type 0 where
   pub got : Got Chunk
   pub reads : chunkOf 4 place (drop place file) ≡ fine got
+  pub by-itself : chunkOf 4 0 (drop place file) ≡ fine (record { value = got .value; next = 0 + sizeAt file place; left = got .left })
   pub left : got .left ≡ drop (place + sizeAt file place) file
   pub size : sizeOf 4 (length (got .value .body)) ≡ sizeAt file place
   pub ends : place + sizeAt file place ≤ length file
   pub some : 0 < sizeAt file place
+  pub long : length (got .value .body) ≡ lengthOf 4 (drop place file)
+  pub body-ends : place + 8 + lengthOf 4 (drop place file) ≤ length file
   pub judged : (kind : Kind) (b : Before) → chunkJudged kind b (drop place file) ≡ judge kind b (got .value .tag) (got .value .body)
 
 pub whole : (file : List ℕ) (place : ℕ) → wellFormed 4 (drop place file) ≡ true → Whole file place
@@ -55,10 +58,13 @@ whole file place ok =
     record {
       got = got;
       reads = reads;
+      by-itself = rw ok;
       left = drop-drop (sizeAt file place) place file;
       size = omega (arith, tiling.framed place b got reads .size);
       ends = omega arith;
       some = omega arith;
+      long = omega (arith, length-take (lengthOf 4 b) (drop 8 b), length-drop 8 b);
+      body-ends = omega arith;
       judged = λ kind b. rw ok;
     }
 
@@ -86,8 +92,8 @@ next-chunk-at file place = by (ltb place (length file)) (wellFormed 4 (drop plac
 -- ---- the walk over the chunks
 
 -- the fault is the first one, of the chunk at a boundary
-pub record FaultAt (kind : Kind) (file : List ℕ) (why : Fault) (place : ℕ) : Type 0 where
-  pub of-chunk : ofChunk why ≡ true
+pub record FaultAt (kind : Kind) (file : List ℕ) (why : Fault) (place : ℕ) : Type 1 where
+  pub of-chunk : ofChunk (numberOf why) ≡ true
   pub chunk : ℕ
   pub inside : chunk < length file
   pub before : Before
@@ -95,10 +101,17 @@ pub record FaultAt (kind : Kind) (file : List ℕ) (why : Fault) (place : ℕ) :
   pub at : ℕ
   pub faulty : chunkJudged kind before (drop chunk file) ≡ fault why at
   pub place-is : place ≡ placeOf chunk at
+  pub to-end : place ≤ endOf file chunk
+  pub in-file : endOf file chunk ≤ length file
+  pub starts : StartsAt kind before (drop chunk file) why at
+
+-- a file that ends at a boundary
+pub record Ends (file : List ℕ) : Type 1 where
+  pub last : Boundary file (length file)
 
 -- and where there is none, the file ends at a boundary
-abbrev pub Walked : {A : Type 0} → (kind : Kind) (file : List ℕ) → Verdict A → Type 0
-Walked kind file (fine parts) = Boundary file (length file)
+abbrev pub Walked : {A : Type 0} → (kind : Kind) (file : List ℕ) → Verdict A → Type 1
+Walked kind file (fine parts) = Ends file
 Walked kind file (fault why place) = FaultAt kind file why place
 
 -- where the walk stands
@@ -111,7 +124,7 @@ module _ (file : List ℕ) (kind : Kind) where
   no-header : (b : Before) (place : ℕ) → Here kind file place b → place < length file → wellFormed 4 (drop place file) ≡ false
       → FaultAt kind file BadHeader (placeOf place 0)
   unfolding numberOf chunkJudged chunkOf _andThen_
-  no-header b place here inside ok = record { of-chunk = refl; chunk = place; inside = inside; before = b; earlier = here .earlier; at = 0; faulty = rw ok; place-is = refl }
+  no-header b place here inside ok = record { of-chunk = refl; chunk = place; inside = inside; before = b; earlier = here .earlier; at = 0; faulty = rw ok; place-is = refl; to-end = rw ok (omega arith); in-file = rw ok (omega arith); starts = places.StartsAt.header ok }
 
   walk-chunk : (b : Before) (place : ℕ) (rest : Chunks) → Here kind file place b → place < length file → (ok : wellFormed 4 (drop place file) ≡ true)
       → (w : Whole file place)
@@ -129,14 +142,28 @@ module _ (file : List ℕ) (kind : Kind) where
       by (fine part) e =
           let there : Here kind file (place + sizeAt file place) (after b part) = record { boundary = next (here .boundary) ok; earlier = places.FineUpTo.next (here .earlier) (w .judged kind b ∙ e); most = w .ends } in
           on part (walk kind (after b part) (place + sizeOf 4 (length (w .got .value .body))) rest) (later part there)
-      by (fault why at) e = record { of-chunk = fault-in-chunk kind b (w .got .value .tag) (w .got .value .body) e .of-chunk; chunk = place; inside = inside; before = b; earlier = here .earlier; at = at; faulty = w .judged kind b ∙ e; place-is = refl }
+      by (fault why at) e =
+          let f = fault-in-chunk kind b (w .got .value .tag) (w .got .value .body) e in
+          record {
+            of-chunk = f .of-chunk;
+            chunk = place;
+            inside = inside;
+            before = b;
+            earlier = here .earlier;
+            at = at;
+            faulty = w .judged kind b ∙ e;
+            place-is = refl;
+            to-end = rw ok (omega (arith, f .within, w .long));
+            in-file = rw ok (w .body-ends);
+            starts = places.StartsAt.inside _ (w .by-itself) (f .starts);
+          }
 
   walk-here : (b : Before) (place : ℕ) → Here kind file place b → NextChunk file place
       → (place < length file → (ok : wellFormed 4 (drop place file) ≡ true) (part : Part) → Here kind file (place + sizeAt file place) (after b part)
       → Walked kind file (walk kind (after b part) (place + sizeAt file place) (chunks (drop (place + sizeAt file place) file))))
       → Walked kind file (walk kind b place (chunks (drop place file)))
   unfolding walk
-  walk-here b place here (end past cs) later = let ends : place ≡ length file = omega (arith, here .most) in rw cs (subst (Boundary file) ends (here .boundary))
+  walk-here b place here (end past cs) later = let ends : place ≡ length file = omega (arith, here .most) in rw cs (record { last = subst (Boundary file) ends (here .boundary) })
   walk-here b place here (none inside cs ok) later = rw cs (no-header b place here inside ok)
   walk-here b place here (one inside ok w cs) later =
       rw cs (walk-chunk b place (chunks (drop (place + sizeAt file place) file)) here inside ok w (λ part there. rw (w .size) (later inside ok part there)))
@@ -171,4 +198,4 @@ last {file} e =
     let a = accepted e in
     let k = fine-with (walk (a .kind) start 12 (chunks (drop 12 file))) partsOf (sym (a .walked)) in
     let ends : Walked (a .kind) file (fine (k .value)) = rw (k .is) at (walked-file file (a .kind) (a .formed)) in
-    ends
+    ends .last

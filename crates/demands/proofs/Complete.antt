@@ -3,7 +3,7 @@
 use Prim.Native.Nat.{ℕ, _≤_, _<_}
 use mathlib.Core.Path.{_≡_, refl, sym, ap, _∙_}
 use mathlib.Core.List.{List}
-use mathlib.Core.Bool.{Bool, true, false, not}
+use mathlib.Core.Bool.{Bool, true, false, not, false≢true}
 use mathlib.Core.Logic.{_≢_}
 use native.Mathlib.Omega.{arith}
 use lib.Dec.{ltb, eqb}
@@ -11,12 +11,11 @@ use lib.ListN.{length}
 use borrow.Author.Tests.{ne-eqb, ltb-true, ltb-false}
 use Rattle.format.specs.Bytes.{if_then_else_, byte, all}
 use Rattle.format.specs.Limits.{fileLimit}
-use Rattle.format.specs.Refusals.{noRoom, notMesh, tooLong}
+use Rattle.format.specs.Refusals.{ofReader, noRoom, notMesh, tooLong}
 use Rattle.format.specs.Mesh.{Tables, needs}
 use Rattle.format.specs.Rules.{Outcome, refused, gives, rules}
 use Rattle.format.specs.Answer.{Answer, answer, fits, over, tablesAfter, Reads}
 use Rattle.format.specs.Written.{isMesh, Written, says, written, outputAfter, Writes}
-use Rattle.format.proofs.Facts.{between-true}
 use Rattle.demands.specs.Demand1.{Refused, fileOf}
 use Rattle.demands.specs.Demand2.{Given, Readable, Writable}
 use Rattle.demands.specs.Demand3.{NoRoom}
@@ -33,8 +32,8 @@ module _ {file : List ℕ} {t t′ : Tables} {a : Answer} (bytes : all byte file
   unfolding answer tablesAfter
   reads-refused {number} {place} e =
       let r : Refused file = record { number = number; place = place; by-rules = e } in
-      let range = between-true 1 15 (a .number) (d .answers .exactly .1 r) in
-      record { bytes = bytes; answers = d .answers .told r ∙ rw e; leaves = d .answers .leaves (λ zero. omega arith) ∙ rw e }
+      let some : a .number ≢ 0 = λ zero. false≢true (sym (ap ofReader zero) ∙ d .answers .exactly .1 r) in
+      record { bytes = bytes; answers = d .answers .told r ∙ rw e; leaves = d .answers .leaves some ∙ rw e }
 
   reads-given : (g : Given file) (b : Bool) → fits (needs (g .mesh)) t ≡ b → Reads file t a t′
   unfolding answer tablesAfter

@@ -2,20 +2,28 @@
 use Prim.Native.Nat.{ℕ, _≤_, _<_}
 use mathlib.Core.Path.{_≡_, refl, sym, ap, _∙_}
 use mathlib.Core.List.{List}
-use mathlib.Core.Bool.{Bool, true, false, not, true≢false}
+use mathlib.Core.Bool.{Bool, true, false, not, true≢false, or-true}
 use native.Mathlib.Omega.{arith}
 use lib.Dec.{leb, ltb, eqb}
 use lib.ListN.{length}
 use borrow.Author.Tests.{le-leb, ltb-true, ltb-false, lt-ltb, le-ltb}
-use Rattle.format.specs.Bytes.{if_then_else_, between}
+use Rattle.format.specs.declared.Kind.{Kind}
+use Rattle.format.specs.declared.Fault.{Fault}
+use Rattle.format.specs.Bytes.{if_then_else_}
 use Rattle.format.specs.Limits.{fileLimit}
 use Rattle.format.specs.Refusals.{noRoom, notMesh, tooLong}
+use Rattle.format.specs.Items.{Verdict, fault, _andThen_}
+use Rattle.format.specs.Chunks.{chunkOf}
 use Rattle.format.specs.Mesh.{Tables, tables, needs}
-use Rattle.format.specs.Rules.{Outcome, refused, gives, rules}
+use Rattle.format.specs.Bodies.{Part}
+use Rattle.format.specs.Rules.{Before, judge, Outcome, refused, gives, rules}
 use Rattle.format.specs.Answer.{Answer, answer, fits, over, filled, tablesAfter, Reads}
 use Rattle.format.specs.Written.{isMesh, Written, says, written, outputAfter, Writes}
 use Rattle.format.proofs.Facts.{impossible, between-true}
-use Rattle.demands.specs.Demand1.{Refused, refusal, placedInChunk, ReadAnswers, fileOf, TooLong, OutputShort, WriteAnswers, Demand1}
+use Rattle.laws.proofs.OnePlace.{told-in-body}
+use Rattle.demands.specs.Places.{chunkJudged, StartsAt}
+use Rattle.demands.specs.Places.StartsAt.{header, inside}
+use Rattle.demands.specs.Demand1.{Refused, refusal, ReadAnswers, fileOf, TooLong, OutputShort, WriteAnswers, Demand1}
 use Rattle.demands.proofs.Refusals.{InOutcome, rules-in}
 
 -- ---- file readers
@@ -27,16 +35,16 @@ module _ {file : List ℕ} {t t′ : Tables} {a : Answer} where
   given true u none number place l = record {
     exactly = (rw number (λ e. absurd (true≢false (sym e))), λ r. absurd (none r));
     told = λ r. absurd (none r);
-    number = omega arith;
-    place-of-chunk = rw number (λ e. absurd (true≢false (sym e)));
+    number = rw number;
+    place-in-chunk = rw number (λ e. absurd (true≢false (sym e)));
     place-of-file = λ e. place;
     leaves = λ other. absurd (other number);
   }
   given false u none number place l = record {
     exactly = (rw number (λ e. absurd (true≢false (sym e))), λ r. absurd (none r));
     told = λ r. absurd (none r);
-    number = omega arith;
-    place-of-chunk = rw number (λ e. absurd (true≢false (sym e)));
+    number = rw number;
+    place-in-chunk = rw number (λ e. absurd (true≢false (sym e)));
     place-of-file = λ e. place;
     leaves = λ other. l;
   }
@@ -46,12 +54,11 @@ module _ {file : List ℕ} {t t′ : Tables} {a : Answer} where
   read-by (refused number place) w is e l =
       let is-number : a .number ≡ number = ap (λ (x : Answer). x .number) e in
       let is-place : a .place ≡ place = ap (λ (x : Answer). x .place) e in
-      let in-range : between 1 15 number ≡ true = rw (le-leb 1 number (w .some), le-leb number 15 (w .few)) in
       record {
-        exactly = (λ h. record { number = number; place = place; by-rules = is }, λ r. rw is-number in-range);
+        exactly = (λ h. record { number = number; place = place; by-rules = is }, λ r. rw is-number (w .of-reader));
         told = λ r. e ∙ (cc (is, r .by-rules));
-        number = omega (arith, w .few);
-        place-of-chunk = rw (is-number, is-place) (w .of-chunk);
+        number = rw (is-number, w .of-reader, or-true (eqb number 0));
+        place-in-chunk = rw (is-number, is-place) (w .of-chunk);
         place-of-file = rw (is-number, is-place) (w .of-file);
         leaves = λ other. l;
       }
@@ -60,6 +67,16 @@ module _ {file : List ℕ} {t t′ : Tables} {a : Answer} where
 
 read-answers : {file : List ℕ} {t t′ : Tables} {a : Answer} → Reads file t a t′ → ReadAnswers file t a t′
 read-answers {file} r = read-by (rules file) (rules-in file) refl (r .answers) (r .leaves)
+
+-- the rules tell of the chunk what starts in it
+told : {kind : Kind} {b : Before} {s : List ℕ} {why : Fault} {at : ℕ} → StartsAt kind b s why at → chunkJudged kind b s ≡ fault why at
+unfolding chunkJudged chunkOf _andThen_
+told (header bad) = rw bad
+told {kind} {b} {why = why} {at = at} (inside c got starts) = rw (got, told-in-body (judge kind b (c .value .tag)) (c .value .body) why at starts)
+
+one-start : {kind : Kind} {b : Before} {s : List ℕ} {why other : Fault} {at there : ℕ} → StartsAt kind b s why at → StartsAt kind b s other there
+    → (why ≡ other) × (at ≡ there)
+one-start {why = why} {other} {at} {there} x y = let same : _≡_ {A = Verdict Part} (fault why at) (fault other there) = sym (told x) ∙ told y in (cc same, cc same)
 
 -- ---- writers
 
@@ -102,4 +119,4 @@ write-answers {t} {out} {out′} {a} w =
     by-tests (isMesh t) (ltb fileLimit (length (fileOf t))) (ltb (length out) (length (fileOf t))) refl refl refl (w .answers) (w .leaves ∙ ap (λ (x : Written). if eqb (x .number) 0 then over (fileOf t) out else out) (sym (w .answers)))
 
 pub demand-1 : Demand1
-demand-1 = record { of-reader = read-answers; of-writer = write-answers }
+demand-1 = record { of-reader = read-answers; one-start = one-start; of-writer = write-answers }

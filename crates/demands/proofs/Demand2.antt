@@ -2,7 +2,7 @@
 use Prim.Native.Nat.{ℕ, _*_, _≤_}
 use mathlib.Core.Path.{_≡_, refl, sym, ap, _∙_, subst}
 use mathlib.Core.List.{List, map, append-nil}
-use mathlib.Core.Bool.{Bool, true, false}
+use mathlib.Core.Bool.{Bool, true, false, false≢true}
 use mathlib.Core.Logic.{_≢_}
 use native.Mathlib.Omega.{arith}
 use lib.Dec.{ltb}
@@ -11,7 +11,7 @@ use lib.Seq.{take-at}
 use borrow.Author.Tests.{le-ltb}
 use Rattle.format.specs.Bytes.{if_then_else_, joined}
 use Rattle.format.specs.Limits.{fileLimit, entryLimit}
-use Rattle.format.specs.Refusals.{noRoom, notMesh, tooLong}
+use Rattle.format.specs.Refusals.{ofReader, noRoom, notMesh, tooLong}
 use Rattle.format.specs.Mesh.{Mesh, Tables, tables, needs, pointWords, pointSize, polygonWords, polygonSize, surfaceWords, recordSize}
 use Rattle.format.specs.Rules.{Outcome, refused, gives, rules}
 use Rattle.format.specs.Answer.{Answer, answer, fits, over, filled, tablesAfter, Reads}
@@ -42,7 +42,7 @@ readable file t e = by (rules file) (rules-in file) refl e
     room false e = absurd (omega arith)
 
     by : (o : Outcome) → InOutcome file o → rules file ≡ o → answer o t .number ≡ 0 → Readable file t
-    by (refused number place) w is e = absurd (omega (arith, w .some))
+    by (refused number place) w is e = absurd (false≢true (sym (ap ofReader e) ∙ w .of-reader))
     by (gives m k d) w is e = record { given = record { mesh = m; skipped = k; details = d; by-rules = is }; room = room (fits (needs m) t) e }
 
 pub reads-mesh : {file : List ℕ} {t t′ : Tables} {a : Answer} → Reads file t a t′ → ReadsMesh file t a t′

@@ -2,39 +2,38 @@
 use Prim.Native.Nat.{ℕ, _+_, _≤_}
 use mathlib.Core.Path.{_≡_, refl, sym, _∙_}
 use mathlib.Core.List.{List}
-use mathlib.Core.Bool.{Bool, true, false, not, _||_, true≢false}
+use mathlib.Core.Bool.{Bool, true, false, not, _||_, true≢false, false≢true, or-true}
 use native.Mathlib.Omega.{arith}
 use lib.Dec.{ltb, eqb}
 use lib.ListN.{length, take, drop}
+use borrow.Author.Tests.{le-leb}
 use Rattle.format.specs.declared.Kind.{Kind}
 use Rattle.format.specs.declared.Kind.the-variants.{LWOB, LWO2}
 use Rattle.format.specs.declared.Fault.{Fault}
 use Rattle.format.specs.declared.Fault.the-variants.{FileTooLong, NotForm, FormLength}
 use Rattle.format.specs.Bytes.{if_then_else_, _is_, between, number}
 use Rattle.format.specs.Limits.{fileLimit}
-use Rattle.format.specs.Refusals.{numberOf}
+use Rattle.format.specs.Refusals.{numberOf, ofChunk, ofReader}
 use Rattle.format.specs.Items.{Verdict, fine, fault, _andThen_}
 use Rattle.format.specs.Chunks.{chunks}
 use Rattle.format.specs.Bodies.{Part}
 use Rattle.format.specs.Rules.{start, PartAt, walk, kindOf, form, judged, Outcome, refused, gives, outcome, rules}
 use Rattle.format.proofs.Facts.{between-true}
-use Rattle.demands.specs.Places.{ChunkAtFault}
-use Rattle.demands.specs.Demand1.{placedInChunk}
+use Rattle.demands.specs.Places.{AtFault}
 use Rattle.demands.proofs.Boundaries.{FaultAt, Walked, walked-file}
 
 -- the number and the place of a refusal
-pub record Refusal (file : List ℕ) (number place : ℕ) : Type 0 where
-  pub some : 1 ≤ number
-  pub few : number ≤ 15
-  pub of-chunk : placedInChunk number ≡ true → ChunkAtFault file number place
-  pub of-file : placedInChunk number ≡ false → place ≡ 0
+pub record Refusal (file : List ℕ) (number place : ℕ) : Type 1 where
+  pub of-reader : ofReader number ≡ true
+  pub of-chunk : ofChunk number ≡ true → AtFault file number place
+  pub of-file : ofChunk number ≡ false → place ≡ 0
 
 -- ---- 1, 2 and 3
 
 -- a verdict whose fault, where it is one, is the whole file's
 abbrev InFile : {A : Type 0} → Verdict A → Type 0
 InFile (fine x) = Unit
-InFile (fault why at) = (between 1 3 (numberOf why) ≡ true) × (at ≡ 0)
+InFile (fault why at) = ((ofReader (numberOf why) ≡ true) × (ofChunk (numberOf why) ≡ false)) × (at ≡ 0)
 
 kind-in : (t : ℕ) → InFile (kindOf t)
 unfolding kindOf numberOf
@@ -43,7 +42,7 @@ kind-in t = by (t is "LWOB") (t is "LWO2")
     by : (a b : Bool) → InFile (if a then fine LWOB else if b then fine LWO2 else fault NotForm 0)
     by true b = tt
     by false true = tt
-    by false false = (refl, refl)
+    by false false = ((refl, refl), refl)
 
 form-in : (s : List ℕ) → InFile (form s)
 unfolding form numberOf _andThen_
@@ -53,31 +52,54 @@ form-in s =
   where
     by : (a b : Bool) (v : Verdict Kind) → InFile v → (c : Bool)
         → InFile (if a then fault FileTooLong 0 else if b then fault NotForm 0 else (v andThen λ kind. if c then fine kind else fault FormLength 0))
-    by true b v w c = (refl, refl)
-    by false true v w c = (refl, refl)
+    by true b v w c = ((refl, refl), refl)
+    by false true v w c = ((refl, refl), refl)
     by false false (fine k) w true = tt
-    by false false (fine k) w false = (refl, refl)
+    by false false (fine k) w false = ((refl, refl), refl)
     by false false (fault why at) w c = w
 
 -- ---- every file
 
+-- the reader's numbers have the chunk's among them
+of-reader : (n : ℕ) → ofChunk n ≡ true → ofReader n ≡ true
+of-reader n e = by (between 4 15 n) (between 19 20 n) refl e
+  where
+    by : (x y : Bool) → between 4 15 n ≡ x → x || y ≡ true → between 1 15 n || y ≡ true
+    by true y q h = let range = between-true 4 15 n q in rw (le-leb 1 n (omega arith), le-leb n 15 (omega arith))
+    by false true q h = or-true (between 1 15 n)
+    by false false q h = absurd (false≢true h)
+
 -- what was judged of a file, where it is a fault
-abbrev InTable : {A : Type 0} → (file : List ℕ) → Verdict A → Type 0
-InTable file (fine x) = Unit
+abbrev InTable : {A : Type 0} → (file : List ℕ) → Verdict A → Type 1
+InTable file (fine x) = Unit {1}
 InTable file (fault why at) = Refusal file (numberOf why) at
 
 module _ (file : List ℕ) where
-  chunk-row : (kind : Kind) → form file ≡ fine kind → (why : Fault) (at : ℕ) → FaultAt kind file why at → Refusal file (numberOf why) at
-  chunk-row kind of-kind why at f =
-      let range = between-true _ _ (numberOf why) (f .of-chunk) in
-      let told : ChunkAtFault file (numberOf why) at =
-      record { kind = kind; of-kind = of-kind; chunk = f .chunk; inside = f .inside; before = f .before; earlier = f .earlier; why = why; at = f .at; faulty = f .faulty; number-is = refl; place-is = f .place-is } in
-      record { some = omega arith; few = omega arith; of-chunk = λ e. told; of-file = λ e. absurd (true≢false (sym (f .of-chunk) ∙ e)) }
+  chunk-row : (kind : Kind) → form file ≡ fine kind → (why : Fault) (place : ℕ) → FaultAt kind file why place → Refusal file (numberOf why) place
+  chunk-row kind of-kind why place f =
+      let told : AtFault file (numberOf why) place =
+      record {
+        kind = kind;
+        of-kind = of-kind;
+        chunk = f .chunk;
+        inside = f .inside;
+        before = f .before;
+        earlier = f .earlier;
+        why = why;
+        at = f .at;
+        faulty = f .faulty;
+        number-is = refl;
+        place-is = f .place-is;
+        from-tag = omega (arith, f .place-is);
+        to-end = f .to-end;
+        in-file = f .in-file;
+        starts = f .starts;
+      } in
+      record { of-reader = of-reader (numberOf why) (f .of-chunk); of-chunk = λ e. told; of-file = λ e. absurd (true≢false (sym (f .of-chunk) ∙ e)) }
 
   file-row : (why : Fault) (at : ℕ) → InFile {A = Kind} (fault why at) → Refusal file (numberOf why) at
   file-row why at w =
-      let range = between-true 1 3 (numberOf why) (w .0) in
-      record { some = omega arith; few = omega arith; of-chunk = λ e. absurd (omega (arith, between-true _ _ (numberOf why) e)); of-file = λ e. w .1 }
+      record { of-reader = w .0 .0; of-chunk = λ e. absurd (true≢false (sym e ∙ w .0 .1)); of-file = λ e. w .1 }
 
   judged-in : InTable file (judged file)
   unfolding judged _andThen_
@@ -93,9 +115,9 @@ module _ (file : List ℕ) where
       by (fine kind) w e = on kind e (walk kind start 12 (chunks (drop 12 file))) (walked-file file kind e)
 
 -- the outcome of a file, where it is a refusal
-abbrev pub InOutcome : (file : List ℕ) → Outcome → Type 0
+abbrev pub InOutcome : (file : List ℕ) → Outcome → Type 1
 InOutcome file (refused number place) = Refusal file number place
-InOutcome file (gives m k d) = Unit
+InOutcome file (gives m k d) = Unit {1}
 
 pub rules-in : (file : List ℕ) → InOutcome file (rules file)
 unfolding rules outcome

@@ -1,21 +1,24 @@
 -- DEMAND 1. "Whatever bytes come in, and whatever buffers we lend, each public entry answers and stops by itself. A refusal is a number from your table with
--- the place of the chunk, and no table or output buffer of ours is changed by one byte." That each call answers and stops is what a proved function means: no
--- public entry asks anything of its caller.
+-- the place of the chunk, and no table or output buffer of ours is changed by one byte." "For 4 to 15, 19 and 20 the place, demand 1's too, becomes the offset of
+-- the first byte of the header, item or string at fault". That each call answers and stops is what a proved function means: no public entry asks anything of its
+-- caller.
 use Prim.Native.Nat.{ℕ, _≤_, _<_}
 use mathlib.Core.Path.{_≡_}
 use mathlib.Core.List.{List}
-use mathlib.Core.Bool.{Bool, true, false}
+use mathlib.Core.Bool.{Bool, true, false, _||_}
 use mathlib.Core.Logic.{_↔_, _≢_}
 use lib.ListN.{length}
-use Rattle.format.specs.Bytes.{between}
+use lib.Dec.{eqb}
+use Rattle.format.specs.declared.Kind.{Kind}
+use Rattle.format.specs.declared.Fault.{Fault}
 use Rattle.format.specs.Limits.{fileLimit}
-use Rattle.format.specs.Refusals.{noRoom, notMesh, tooLong}
+use Rattle.format.specs.Refusals.{ofChunk, ofReader, noRoom, notMesh, tooLong}
 use Rattle.format.specs.Mesh.{Tables}
-use Rattle.format.specs.Rules.{refused, rules}
+use Rattle.format.specs.Rules.{Before, refused, rules}
 use Rattle.format.specs.Answer.{Answer, noNeeds, Reads}
 use Rattle.format.specs.Canonical.{canonical}
 use Rattle.format.specs.Written.{meshFrom, isMesh, Written, says, Writes}
-use Rattle.demands.specs.Places.{ChunkAtFault}
+use Rattle.demands.specs.Places.{StartsAt, AtFault}
 
 -- ---- file readers
 
@@ -29,22 +32,22 @@ pub record Refused (file : List ℕ) : Type 0 where
 abbrev pub refusal : (number place : ℕ) → Answer
 refusal number place = record { number = number; place = place; needs = noNeeds; skipped = 0; details = 0 }
 
--- the numbers for which the table's place is "chunk"
-abbrev pub placedInChunk : (number : ℕ) → Bool
-placedInChunk number = between 4 15 number
+-- the numbers that a reader answers: 0, its refusals of a file, and 16
+abbrev pub answerNumber : ℕ → Bool
+answerNumber number = eqb number 0 || ofReader number || eqb number noRoom
 
 -- a reader answers a for a file and the tables t, which come back as t′
-pub record ReadAnswers (file : List ℕ) (t : Tables) (a : Answer) (t′ : Tables) : Type 0 where
-  -- "A refusal is a number from your table": 1 to 15 exactly when the rules refuse the file; of 16 demand 3 tells
-  pub exactly : (between 1 15 (a .number) ≡ true) ↔ Refused file
+pub record ReadAnswers (file : List ℕ) (t : Tables) (a : Answer) (t′ : Tables) : Type 1 where
+  -- "A refusal is a number from your table": 1 to 15, 19 or 20 exactly when the rules refuse the file; of 16 demand 3 tells
+  pub exactly : (ofReader (a .number) ≡ true) ↔ Refused file
   -- with the rules' own number and place
   pub told : (r : Refused file) → a ≡ refusal (r .number) (r .place)
-  -- and there is no number above 16
-  pub number : a .number ≤ noRoom
-  -- "with the place of the chunk"
-  pub place-of-chunk : placedInChunk (a .number) ≡ true → ChunkAtFault file (a .number) (a .place)
+  -- and there is no other number
+  pub number : answerNumber (a .number) ≡ true
+  -- "For 4 to 15, 19 and 20 the place" is "the offset of the first byte of the header, item or string at fault"
+  pub place-in-chunk : ofChunk (a .number) ≡ true → AtFault file (a .number) (a .place)
   -- and for 0, 1, 2, 3 and 16 the place 0
-  pub place-of-file : placedInChunk (a .number) ≡ false → a .place ≡ 0
+  pub place-of-file : ofChunk (a .number) ≡ false → a .place ≡ 0
   -- "no table or output buffer of ours is changed by one byte"
   pub leaves : a .number ≢ 0 → t′ ≡ t
 
@@ -77,6 +80,9 @@ pub record WriteAnswers (t : Tables) (out : List ℕ) (a : Written) (out′ : Li
 
 -- ---- the demand
 
-pub record Demand1 : Type 0 where
+pub record Demand1 : Type 1 where
   pub of-reader : {file : List ℕ} {t t′ : Tables} {a : Answer} → Reads file t a t′ → ReadAnswers file t a t′
+  -- what has a chunk's fault starts at one place: no other fault, and no other place, meets the statement
+  pub one-start : {kind : Kind} {b : Before} {s : List ℕ} {why other : Fault} {at there : ℕ} → StartsAt kind b s why at → StartsAt kind b s other there
+      → (why ≡ other) × (at ≡ there)
   pub of-writer : {t : Tables} {out out′ : List ℕ} {a : Written} → Writes t out a out′ → WriteAnswers t out a out′

@@ -14,7 +14,7 @@ use Rattle.lwo.specs.Exports.{answerAs as exportedAs, writtenAs as exportedWrit
 use Rattle.demands.specs.Complete.{ReadDemands, WriteDemands}
 
 -- From the contract in the source of each entry: `read` of crate reader, `write` of crate writer, `lwo_read` and `lwo_write` of crate lwo.
-pub record Entries : Type 0 where
+pub record Entries : Type 1 where
   pub read : {file : List ℕ} {t t′ : Tables} (a : ReadAnswer) → Reads file t (readAs a) t′ → ReadDemands file t (readAs a) t′
   pub write : {t : Tables} {out out′ : List ℕ} (a : WriteAnswer) → Writes t out (writeAs a) out′ → WriteDemands t out (writeAs a) out′
   pub lwo-read : {file : List ℕ} {t t′ : Tables} (a : LwoAnswer) → Reads file t (exportedAs a) t′ → ReadDemands file t (exportedAs a) t′

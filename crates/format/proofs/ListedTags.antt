@@ -19,7 +19,7 @@ use Rattle.format.proofs.Facts.{all-first, all-rest}
 -- ---- by tag
 
 -- what is to be known of the judgement of a chunk of each listed tag, and of one that is skipped
-pub record ByTag (P : (List ℕ → Verdict Part) → Type 0) (kind : Kind) (b : Before) (t : ℕ) : Type 0 where
+pub record ByTag {ℓ} (P : (List ℕ → Verdict Part) → Type ℓ) (kind : Kind) (b : Before) (t : ℕ) : Type ℓ where
   pub of-points : (ok : Bool) → t is "PNTS" ≡ true → P (when ok read pointsBody kind)
   pub of-names : namesTag kind t ≡ true → P (when not (there (b .names)) read namesBody)
   pub of-faces : t is "POLS" ≡ true → P (when there (b .points) && there (b .names) read facesBody (count (b .points)) (count (b .names)))
@@ -29,7 +29,7 @@ pub record ByTag (P : (List ℕ → Verdict Part) → Type 0) (kind : Kind) (b :
   pub of-surface : t is "SURF" ≡ true → P (when true read surfaceBody kind)
   pub of-skipped : P (λ body. fine skippedChunk)
 
-module _ (P : (List ℕ → Verdict Part) → Type 0) where
+module _ {ℓ} (P : (List ℕ → Verdict Part) → Type ℓ) where
   by-test : (t : Bool) {f g : List ℕ → Verdict Part} → (t ≡ true → P f) → P g → P (if t then f else g)
   by-test true w v = w refl
   by-test false w v = v

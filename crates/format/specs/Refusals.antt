@@ -1,8 +1,10 @@
 -- "Refusal numbers": the number and the place of each kind of fault. What a fault is about, and where exactly it lies, is kept; this page alone says what
 -- of it is reported.
-use Prim.Native.Nat.{ℕ}
+use Prim.Native.Nat.{ℕ, _+_}
+use mathlib.Core.Bool.{Bool, _||_}
 use Rattle.format.specs.declared.Fault.{Fault}
 use Rattle.format.specs.declared.Fault.the-variants.{FileTooLong, NotForm, FormLength, BadHeader, OutOfOrder, WrongLength, ItemCut, StringOpen, NotFinite, VertexCount, VertexNumber, SurfaceNumber, PolygonNumber, PolygonType, BadName, DetailSurface, SurfaceValue}
+use Rattle.format.specs.Bytes.{between}
 
 unfoldable pub numberOf : Fault → ℕ
 numberOf FileTooLong = 1  -- file too long
@@ -11,8 +13,8 @@ numberOf FormLength = 3  -- FORM length is not file length less 8
 numberOf BadHeader = 4  -- header cut, tag byte outside 32..126, length past the parent's end, pad byte missing or not zero
 numberOf OutOfOrder = 5  -- something that must come earlier is missing, or a single chunk comes twice
 numberOf WrongLength = 6  -- wrong body length (bytes left over; LWOB PNTS over 65,536 points)
-numberOf ItemCut = 6  -- item cut by its chunk's end
-numberOf StringOpen = 6  -- string without terminator or zero pad
+numberOf ItemCut = 19  -- item (no string) cut by its chunk's end
+numberOf StringOpen = 20  -- string without terminator or zero pad
 numberOf NotFinite = 7  -- coordinate or level not finite
 numberOf VertexCount = 8  -- vertex count not allowed
 numberOf VertexNumber = 9  -- vertex number not below the latest point list's length
@@ -22,6 +24,14 @@ numberOf PolygonType = 12  -- POLS type neither FACE nor PTCH
 numberOf BadName = 13  -- in TAGS or SRFS only: name over 255 bytes, or equal to an earlier name there
 numberOf DetailSurface = 14  -- a detail polygon with a negative surface number
 numberOf SurfaceValue = 15  -- SIDE neither 1 nor 3, or BLOK empty or with another first sub-chunk
+
+-- the numbers of a chunk's faults: "4 to 15, 19 and 20"
+abbrev pub ofChunk : ℕ → Bool
+ofChunk number = between 4 15 number || between 19 20 number
+
+-- and with those of the whole file, 1, 2 and 3
+abbrev pub ofReader : ℕ → Bool
+ofReader number = between 1 15 number || between 19 20 number
 
 -- "NO ROOM: table or output too short", "writer: not a mesh", "writer: canonical file too long"
 abbrev pub noRoom : ℕ
@@ -33,6 +43,7 @@ notMesh = 17
 abbrev pub tooLong : ℕ
 tooLong = 18
 
--- "Chunk" is "the offset of the top-level chunk's tag". The header, item or string at fault lies `at` bytes after that tag.
+-- "For 4 to 15, 19 and 20 the place, demand 1's too, becomes the offset of the first byte of the header, item or string at fault", which lies `at` bytes after
+-- the tag of its top-level chunk.
 abbrev pub placeOf : (chunk at : ℕ) → ℕ
-placeOf chunk at = chunk
+placeOf chunk at = chunk + at

@@ -83,7 +83,7 @@ table =
     ∷ (vx-item (hex "feff"), item-gives 65279 2)
     ∷ (vx-item (hex "ff00ff00"), item-gives 65280 4)
     ∷ (vx-item (hex "ff000005"), item-gives 5 4)
-    ∷ (vx-item (hex "ff00"), item-refused 6)
+    ∷ (vx-item (hex "ff00"), item-refused 19)
     ∷ (surface-item (hex "8000"), surface-gives 32768 true)
     ∷ (lumi-body (hex "0080"), level-gives 0x3f00_0000)
     ∷ (lumi-body (hex "ff80"), level-gives 0xbf00_0000)

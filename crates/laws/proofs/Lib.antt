@@ -8,6 +8,7 @@ pub mod Bodies
 pub mod Walk
 pub mod Polygons
 pub mod Meshes
+pub mod OnePlace
 pub mod Form
 pub mod Accepted
 pub mod Lengths

@@ -3,7 +3,7 @@ use Prim.Native.Nat.{ℕ, _/_, _≤_}
 use mathlib.Core.Path.{_≡_, refl, sym, ap, _∙_}
 use mathlib.Core.List.{List}
 use mathlib.Core.Logic.{_↔_, _≢_}
-use mathlib.Core.Bool.{Bool, true, false}
+use mathlib.Core.Bool.{Bool, true, false, false≢true}
 use native.Mathlib.Omega.{arith}
 use lib.Dec.{leb}
 use lib.ListN.{length}
@@ -11,7 +11,7 @@ use borrow.Author.Tests.{le-leb, leb-true}
 use Rattle.format.specs.declared.Fault.{Fault}
 use Rattle.format.specs.declared.Fault.the-variants.{FileTooLong, NotForm, FormLength, BadHeader, OutOfOrder, WrongLength, ItemCut, StringOpen, NotFinite, VertexCount, VertexNumber, SurfaceNumber, PolygonNumber, PolygonType, BadName, DetailSurface, SurfaceValue}
 use Rattle.format.specs.Bytes.{if_then_else_, between, every}
-use Rattle.format.specs.Refusals.{numberOf, noRoom}
+use Rattle.format.specs.Refusals.{numberOf, ofReader, noRoom}
 use Rattle.format.specs.Items.{Verdict, fine, fault}
 use Rattle.format.specs.declared.Kind.{Kind}
 use Rattle.format.specs.Mesh.{Mesh, pointSize, polygonSize, recordSize, Tables, Needs, needs}
@@ -65,8 +65,8 @@ pub record MeshWithoutRoom (o : Outcome) (t : Tables) : Type 0 where
   pub given : o ≡ gives mesh skipped details
   pub short : fits (needs mesh) t ≡ false
 
--- a fault of a file has a number from 1 to 15
-number-range : (why : Fault) → between 1 15 (numberOf why) ≡ true
+-- a fault of a file has one of the reader's numbers
+number-range : (why : Fault) → ofReader (numberOf why) ≡ true
 unfolding numberOf
 number-range FileTooLong = refl
 number-range NotForm = refl
@@ -86,18 +86,18 @@ number-range BadName = refl
 number-range DetailSurface = refl
 number-range SurfaceValue = refl
 
-pub refused-range : (s : List ℕ) {number place : ℕ} → rules s ≡ refused number place → (1 ≤ number) × (number ≤ 15)
+pub refused-range : (s : List ℕ) {number place : ℕ} → rules s ≡ refused number place → ofReader number ≡ true
 unfolding rules outcome
 refused-range s {number} e = by (judged s) e
   where
-    by : {place : ℕ} (v : Verdict (Kind × List PartAt)) → outcome v ≡ refused number place → (1 ≤ number) × (number ≤ 15)
+    by : {place : ℕ} (v : Verdict (Kind × List PartAt)) → outcome v ≡ refused number place → ofReader number ≡ true
     by (fine f) e = impossible cc
-    by (fault why at) e = let same : numberOf why ≡ number = cc in between-true 1 15 number (ap (between 1 15) (sym same) ∙ number-range why)
+    by (fault why at) e = let same : numberOf why ≡ number = cc in ap ofReader (sym same) ∙ number-range why
 
 -- what was judged is answered with 16 only where it is a mesh that the tables do not hold
 no-room-of : (v : Verdict (Kind × List PartAt)) (t : Tables) → answer (outcome v) t .number ≡ noRoom → MeshWithoutRoom (outcome v) t
 unfolding outcome answer
-no-room-of (fault why at) t e = absurd (omega (arith, between-true 1 15 (numberOf why) (number-range why)))
+no-room-of (fault why at) t e = absurd (false≢true (sym (ap ofReader e) ∙ number-range why))
 no-room-of (fine f) t e = record { mesh = m; skipped = _; details = _; given = refl; short = go (fits (needs m) t) e }
   where
     m : Mesh

@@ -3,13 +3,14 @@
 use Prim.Native.Nat.{ℕ, _<_, _≤_}
 use mathlib.Core.Path.{_≡_, refl, ap, _∙_, sym}
 use mathlib.Core.List.{List, [], _∷_, _++_}
-use mathlib.Core.Bool.{Bool, true, false}
+use mathlib.Core.Bool.{Bool, true, false, false≢true}
 use mathlib.Core.Logic.{_≢_}
 use native.Mathlib.Omega.{arith}
 use lib.Dec.{ltb, eqb}
 use lib.ListN.{length, getD}
 use borrow.Author.Tests.{ne-eqb, ltb-true, lt-ltb, le-ltb}
 use Rattle.format.specs.Bytes.{if_then_else_, spelt}
+use Rattle.format.specs.Refusals.{ofReader}
 use Rattle.format.specs.Mesh.{Polygon, needs}
 use Rattle.format.specs.Rules.{refused, gives, rules}
 use Rattle.format.specs.Answer.{Answer, fits, answer}
@@ -41,7 +42,7 @@ pub listed : (input : List ℕ) → Listed input (printed input)
 unfolding answer listing polygonsGiven
 listed input = record {
   too-long = (long-only input (ltb inputLimit (length input)) refl, λ long. unfold printed in rw (lt-ltb inputLimit (length input) long));
-  refusal = λ few {number} {place} e. let some : number ≢ 0 = λ zero. omega (arith, refused-range input e) in within input few ∙ rw (e, ne-eqb number 0 some);
+  refusal = λ few {number} {place} e. let some : number ≢ 0 = λ zero. false≢true (sym (ap ofReader zero) ∙ refused-range input e) in within input few ∙ rw (e, ne-eqb number 0 some);
   no-room = λ few e short. within input few ∙ rw (e, short);
   accepted = λ few e room. within input few ∙ rw (e, room);
 }

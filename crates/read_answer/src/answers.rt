@@ -7,7 +7,7 @@ use format::Fault;
 use validate::counts::Totals;
 use wire::Refusal;
 
-// The number that document 01 gives a fault.
+// The number that the documents give a fault.
 fn number_of(why: Fault) -> u32
     ensures { λ r. ⌜ r ≡ numberOf why ⌝ }
 {
@@ -18,8 +18,8 @@ fn number_of(why: Fault) -> u32
         Fault::BadHeader => 4,
         Fault::OutOfOrder => 5,
         Fault::WrongLength => 6,
-        Fault::ItemCut => 6,
-        Fault::StringOpen => 6,
+        Fault::ItemCut => 19,
+        Fault::StringOpen => 20,
         Fault::NotFinite => 7,
         Fault::VertexCount => 8,
         Fault::VertexNumber => 9,

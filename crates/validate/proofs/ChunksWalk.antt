@@ -17,6 +17,7 @@ use Rattle.format.proofs.ChunkWalk.{parts-finished, parts-broken, parts-chunk}
 use Rattle.format.proofs.ReaderSteps.{exactly}
 use Rattle.format.proofs.Verdicts.{fine-with, stopped, then-same, then-then}
 use Rattle.format.proofs.Tiling.{none, no-chunk}
+use Rattle.laws.proofs.Readers.{fault-in-chunk}
 use Rattle.wire.specs.declared.Refusal.{Refusal}
 use Rattle.wire.specs.declared.cursor.Cursor.{Cursor}
 use Rattle.headers.specs.declared.Header.{Header}
@@ -71,7 +72,8 @@ module _ {kind : Kind} {file : List ℕ} {at : ℕ} {seen : Seen} (w : CountedTo
     unfolding _andThen_
     no-header h =
         let long : 0 < length (drop at file) = rw (length-drop at file) (omega arith) in
-        record { is = sym (w .is ∙ rw (no-chunk at (drop at file) long (exactly (h .reads .says)), parts-broken kind before at)) }
+        let own : at + 0 ≡ at = omega arith in
+        record { is = sym (w .is ∙ rw (no-chunk at (drop at file) long (exactly (h .reads .says)), parts-broken kind before at, own)) }
 
     module _ {tag : ℕ} {end : ℕ} {next : Cursor} (h : HeaderAt 4 file at (Header.Got tag end next)) where
       -- the chunk as it is lent, its body, and the chunks after it
@@ -84,11 +86,17 @@ module _ {kind : Kind} {file : List ℕ} {at : ℕ} {seen : Seen} (w : CountedTo
       abbrev later-chunks : Chunks
       later-chunks = chunks (drop (next .at) file)
 
+      at-fault : {f : Refusal} → OneMoreSeen kind tag seen lent (StepResult.Stop f) → judge kind before tag (drop 8 lent) ≡ fault (f .why) (f .at)
+      at-fault d = stopped (judge kind before tag (drop 8 lent)) (λ part. seenWith seen (countedOf part)) (d .is)
+
+      -- a fault lies within its chunk, and so in the file
+      pub in-file : {f : Refusal} → OneMoreSeen kind tag seen lent (StepResult.Stop f) → at + f .at ≤ length file
+      in-file d = omega (arith, fault-in-chunk kind before tag (drop 8 lent) (at-fault d) .within, length-drop 8 lent, long h, h .inside)
+
       pub stop : {f : Refusal} {p : ℕ} → OneMoreSeen kind tag seen lent (StepResult.Stop f) → p ≡ placeOf at (f .at)
           → ChunksJudged kind file (ChunksResult.Refused (record { why = f .why; at = p }))
       stop {f} d place =
-          let at-fault = stopped (judge kind before tag (drop 8 lent)) (λ part. seenWith seen (countedOf part)) (d .is) in
-          let judged : judge kind before tag inside ≡ fault (f .why) (f .at) = rw (body h) at-fault in
+          let judged : judge kind before tag inside ≡ fault (f .why) (f .at) = rw (body h) (at-fault d) in
           record { is = sym (w .is ∙ rw (front h, place) (walk-stops kind before at tag inside later-chunks (λ parts. seenAfter seen parts .totals) judged)) }
 
       pub turn : {later : Seen} → OneMoreSeen kind tag seen lent (StepResult.Go later) → CountedTo kind file (next .at) later

@@ -41,11 +41,12 @@ pub enum ChunksResult {
     Counts(Totals),
 }
 
-// The place that is reported of a fault in a chunk.
+// The place in the file of a fault that lies so many bytes after its chunk's tag.
 fn place(chunk: usize, at: usize) -> usize
+    requires { ⌜ chunk + at < 2 ^ 64 ⌝ }
     ensures { λ r. ⌜ r ≡ placeOf chunk at ⌝ }
 {
-    chunk
+    at + chunk
 }
 
 // Chunks in file order, so that the first fault is the one told.

@@ -5,7 +5,7 @@ use native.Mathlib.Omega.{arith}
 use lib.ListN.{length}
 use Rattle.headers.specs.declared.Header.{Header}
 use Rattle.headers.specs.Contracts.{HeaderAt}
-use Rattle.validate.proofs.ChunksWalk.{CountedTo, begin, end, no-header, stop, turn}
+use Rattle.validate.proofs.ChunksWalk.{CountedTo, begin, end, no-header, in-file, stop, turn}
 use Rattle.headers.proofs.ChunkInFile.{long}
 use Rattle.validate.proofs.chunks.validate_chunks.Statement.{statement}
 use Rattle.validate.proofs.chunks.validate_chunks.Tie as tie
@@ -35,6 +35,14 @@ step-requires c κs =
     let u = t .before .before in
     let l = long (header t) in
     (rw l (omega (arith, header t .inside)), rw l (omega (arith, header t .inside, u .before .before .loop .inv .few, u .before .before .before .before .before .good)))
+
+place-requires : tie.Need-place-requires Inv-loop μ-loop
+place-requires c κs =
+    let d = c .before .before .before in
+    let t = d .before .before .before in
+    let u = t .before .before in
+    let told = in-file (u .before .before .loop .inv) (u .before .loop-test .taken) (header t) (rw (c .before .f .given .1) at (d .step .ensures)) in
+    omega (arith, told, u .before .before .before .before .before .good)
 
 returns-2 : tie.Need-returns-2 Inv-loop μ-loop
 returns-2 c =
@@ -75,7 +83,7 @@ validate-chunks-spec =
     (λ c. omega (arith, header (c .before) .inside))
     step-requires
     (λ c. search needs)
-    (λ c κs. search needs)
+    place-requires
     returns-2
     (λ c. search needs)
     loop-less
