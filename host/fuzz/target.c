@@ -160,14 +160,28 @@ static void check_witness(const LwoAnswer *told) {
            "the second program answers otherwise");
 }
 
+/* Whether a number is that of a fault in a chunk: 4 to 15, 19 and 20. 1 to 3 are of the
+ * file as a whole, 17 and 18 the writer's. */
+static int is_of_a_chunk(uint64_t number) {
+    return (number >= LWO_CHUNK && number <= LWO_SIDE_OR_BLOCK) || number == LWO_ITEM_CUT ||
+           number == LWO_STRING_OPEN;
+}
+
+/* Whether a place can be that of a refusal: an item that is missing altogether may begin
+ * where the file ends. */
+static int is_place_of(uint64_t number, uint64_t place) {
+    return is_of_a_chunk(number) ? place >= 12 && place <= input.bytes : place == 0;
+}
+
 /* The answer to empty tables: a mesh's needs, or a refusal. */
 static LwoAnswer ask_needs(void) {
     static const size_t none[TABLES];
     lend(&lent, none, AT_END, 1);
     LwoAnswer answer = read_into(&input, &lent);
     demand(unchanged(&lent, 1), "a guard of an empty table was changed");
-    demand(answer.number <= NO_ROOM, "the reader has no such number");
-    demand(answer.place == 0 || answer.place < input.bytes, "the place is not in the file");
+    demand(answer.number <= NO_ROOM || is_of_a_chunk(answer.number),
+           "the reader has no such number");
+    demand(is_place_of(answer.number, answer.place), "the place is not in the file");
     check_witness(&answer);
     return answer;
 }
@@ -219,13 +233,14 @@ static void lend_longer_input(void) {
     }
 }
 
-/* Refusals 1 to 3 are of the file as a whole; the others move. */
+/* Refusals 1 to 3 are of the file as a whole; the others move, since no chunk lies before
+ * the one that is put in. */
 static void check_one_more_chunk(const LwoAnswer *told, const size_t words[TABLES]) {
     LwoAnswer expected = *told;
     if (told->number == NO_ROOM || told->number == 0) {
         expected.number = 0;
         expected.skipped += 1;
-    } else if (told->number > 3) {
+    } else if (is_of_a_chunk(told->number)) {
         expected.place += 8;
     } else {
         return;

@@ -75,7 +75,9 @@ mesh-l = record {
   surfaces = missing ∷ [];
 }
 
--- the cases a to l in order, and that the file of l is "Canonical too"
+-- The cases a to l in order, and that the file of l is "Canonical too"; then for #101 what starts at the place that is told: a number that is not there, at the
+-- file's end, an index that is cut, the later of two equal names, a name without its pad, a sub-chunk's header with a bad pad, one with bytes left over, SIDE's
+-- value, and the header of a BLOK that begins otherwise.
 table : List (Input × Result)
 table =
     (file (hex "464f524d000000044c574f32"), file-gives (gives nothing 0 0))
@@ -91,6 +93,14 @@ table =
     ∷ (file (hex "464f524d0000001a4c574f32504e54530000000d0000000000000000000000000000"), file-gives (refused 6 12))
     ∷ (file case-l, file-gives (gives mesh-l 0 0))
     ∷ (mesh mesh-l, written-as case-l)
+    ∷ (file (hex "464f524d000000264c574f32504e54530000000c000000000000000000000000504f4c5300000006464143450001"), file-gives (refused 19 46))
+    ∷ (file (hex "464f524d0000002a4c574f32504e54530000000c000000000000000000000000504f4c5300000009464143450001ff000000"), file-gives (refused 19 46))
+    ∷ (file (hex "464f524d000000104c574f32544147530000000461006100"), file-gives (refused 13 22))
+    ∷ (file (hex "464f524d000000124c574f325441475300000006610061620078"), file-gives (refused 20 22))
+    ∷ (file (hex "464f524d000000184c574f32535552460000000c61000000474c4f5300017879"), file-gives (refused 4 24))
+    ∷ (file (hex "464f524d0000001e4c574f325355524600000012610000004449464600080000000000000000"), file-gives (refused 6 24))
+    ∷ (file (hex "464f524d000000184c574f32535552460000000c610000005349444500020002"), file-gives (refused 15 30))
+    ∷ (file (hex "464f524d0000001c4c574f32535552460000001061000000424c4f4b0006544d41500000"), file-gives (refused 15 24))
     ∷ []
 
 worked : map (λ c. run (c .0)) table ≡ map (λ c. c .1) table

@@ -23,7 +23,7 @@ pub enum Container {
     Attributes,
 }
 
-// What can be wrong with a file. It is finer than the refusal numbers, which specs/Refusals.antt gives.
+// What can be wrong with a file. specs/Refusals.antt gives each its number.
 pub enum Fault {
     FileTooLong,
     NotForm,

@@ -1,4 +1,5 @@
--- What every reader obeys, by one induction over how readers are made: a fault is a chunk's and lies within the chunk, and what is read of bytes is good.
+-- What every reader obeys, by one induction over how readers are made: a fault is a chunk's, lies within the chunk and is told where what has it starts, and what
+-- is read of bytes is good.
 use Prim.Native.Nat.{ℕ, zero, suc, _+_, _-_, _*_, _%_, _^_, _≤_, _<_}
 use mathlib.Core.Path.{_≡_, refl, sym, ap, _∙_}
 use mathlib.Core.List.{List, [], _∷_, _++_, map}

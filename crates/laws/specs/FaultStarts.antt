@@ -26,7 +26,7 @@ pub data OneItem : (A : Type 0) → Reader A → Type 1 where
   text : OneItem Name string
   asked : (A : Type 0) (r : Reader A) (why : Fault) (ok : A → Bool) → OneItem A r → OneItem A (r or why unless ok)
 
--- A reader that begins at the place `at`, with the bytes s before it, comes to what has the fault `why`, which starts at `place`.
+-- A reader that begins at the place `at`, with the bytes s from there on, comes to what has the fault `why`, which starts at `place`.
 pub data FaultStarts : (A : Type 0) (r : Reader A) (at : ℕ) (s : List ℕ) (why : Fault) (place : ℕ) → Type 1 where
   -- ---- it starts here
 

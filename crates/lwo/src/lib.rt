@@ -8,7 +8,7 @@ ghost use Rattle.lwo.specs.Exports.{answerAs, writtenAs, version};
 use reader::read;
 use writer::write;
 
-// The reader's answer: a number of document 01 (0 accepted), the place, the five needs, the skipped chunks and the details.
+// The reader's answer: a refusal's number (0 accepted) and its place, the five needs, the skipped chunks and the details.
 #[repr(C)]
 pub struct LwoAnswer {
     pub number: u64,

@@ -3,7 +3,7 @@
 pub mod answers;
 pub mod room;
 
-// A number of document 01 (0 accepted) and the place; the five needs, the skipped chunks and the details, which are 0 on every refusal but 16.
+// The number of a refusal (0 accepted) and its place; the five needs, the skipped chunks and the details, which are 0 on every refusal but 16.
 pub struct ReadAnswer {
     pub number: u32,
     pub place: usize,

@@ -5,7 +5,7 @@ use std::io;
 use std::path::Path;
 
 /// The module of worked cases, which defines nothing for others.
-const WORKED: &str = "Worked";
+pub const WORKED: &str = "Worked";
 
 /// The `use` lines for all definitions that stay shut by themselves, and their
 /// names for an `unfolding` line.

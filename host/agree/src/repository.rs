@@ -5,7 +5,7 @@ use std::fs;
 use std::io;
 use std::path::Path;
 
-use crate::book::Book;
+use crate::book::{Book, WORKED};
 use crate::case::{Case, Sort};
 use crate::theorem;
 
@@ -21,6 +21,16 @@ pub fn write_specification(folder: &Path, rules: &Path) -> io::Result<()> {
         copy_folder(&rules.join(part), &copy)?;
     }
     Ok(())
+}
+
+/// Takes the worked table out of such a copy. Where the table is refused, the
+/// prover does not come to the theorems about cases.
+pub fn leave_worked_out(folder: &Path) -> io::Result<()> {
+    let specs = folder.join("crates/format/specs");
+    let list = specs.join("Lib.antt");
+    let text = fs::read_to_string(&list)?;
+    fs::write(&list, text.replace(&format!("pub mod {WORKED}\n"), ""))?;
+    fs::remove_file(specs.join(format!("{WORKED}.antt")))
 }
 
 /// Into such a copy, a file of the crate's proofs and those that it uses.

@@ -7,7 +7,7 @@ use std::path::{Path, PathBuf};
 use crate::case::Case;
 use crate::mutants::{Mutant, Seen};
 use crate::prover::{check, Verdict};
-use crate::repository::{write_law, write_specification, write_theorems};
+use crate::repository::{leave_worked_out, write_law, write_specification, write_theorems};
 
 /// The file of laws that see changes.
 const LAWS: &str = "Bounds";
@@ -61,6 +61,7 @@ impl Trial {
                 (format!("the law {law}"), verdict, seen)
             }
             Seen::Case(name) => {
+                leave_worked_out(&folder).map_err(text)?;
                 write_theorems(&folder, &[self.case(name)?]).map_err(text)?;
                 let verdict = verdict(&folder, &[])?;
                 let seen = by_cases(&verdict).contains(name);

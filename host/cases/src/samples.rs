@@ -13,6 +13,7 @@ pub fn samples() -> Vec<(&'static str, Vec<u8>)> {
         ("oak.lwo", oak()),
         ("panel.lwo", panel()),
         ("rosette.lwo", rosette()),
+        ("saddle.lwo", saddle()),
     ]
 }
 
@@ -21,7 +22,8 @@ fn oak() -> Vec<u8> {
     triangle(2)
 }
 
-/// The same file, but its triangle names a fourth point, which there is not: refused 9 at 68.
+/// The same file, but its triangle names a fourth point, which there is not: refused 9 at 86, where
+/// that vertex stands.
 fn damaged() -> Vec<u8> {
     triangle(3)
 }
@@ -168,6 +170,52 @@ fn chest() -> Vec<u8> {
         chunk(b"SURF", &brass()),
     ];
     form(Kind::Lwo2, &join(&chunks))
+}
+
+/// LWO2: a saddle of leather with a gilded rim, from a program that writes no envelope's index
+/// behind a level. The DIFF of the leather ends where that index would begin, in the middle of the
+/// file and just where the next sub-chunk has its tag: refused 19 at 218.
+fn saddle() -> Vec<u8> {
+    let corners = [
+        [0.0, 0.0, 0.0],
+        [0.45, 0.0, 0.0],
+        [0.45, 0.3, 0.0],
+        [0.0, 0.3, 0.0],
+        [0.0, 0.35, 0.06],
+        [0.45, 0.35, 0.06],
+    ];
+    let chunks = [
+        chunk(b"TAGS", &strings(&[b"Leather", b"Gold leaf"])),
+        chunk(b"PNTS", &points(&corners)),
+        chunk(
+            b"POLS",
+            &lwo2_polygons(b"FACE", &[&[0, 1, 2, 3], &[3, 2, 5, 4]]),
+        ),
+        chunk(b"PTAG", &taggings(&[(0, 0), (1, 1)])),
+        chunk(b"SURF", &leather()),
+        chunk(b"SURF", &gold_leaf()),
+    ];
+    form(Kind::Lwo2, &join(&chunks))
+}
+
+/// Its diffuse level has no envelope's index.
+fn leather() -> Vec<u8> {
+    join(&[
+        string(b"Leather"),
+        string(b""),
+        sub_chunk(b"COLR", &join(&[points(&[[0.42, 0.24, 0.12]]), vx(0)])),
+        sub_chunk(b"DIFF", &level(0.8)),
+        sub_chunk(b"SPEC", &enveloped(0.2)),
+    ])
+}
+
+fn gold_leaf() -> Vec<u8> {
+    join(&[
+        string(b"Gold leaf"),
+        string(b""),
+        sub_chunk(b"COLR", &join(&[points(&[[0.83, 0.69, 0.22]]), vx(0)])),
+        sub_chunk(b"SIDE", &u2(3)),
+    ])
 }
 
 /// Seen from both sides, with a picture of the grain in a block.

@@ -5,8 +5,9 @@ use std::fmt;
 use crate::reading::Reading;
 use crate::writing::Writing;
 
-/// The numbers of document 01's table, with 0 for accepted.
-const NUMBERS: usize = 19;
+/// The numbers of document 01's table and those of request #101, with 0 for
+/// accepted.
+const NUMBERS: usize = 21;
 
 /// How many files and meshes there were, by the number that each answers where
 /// there is room, and how often they were read and written.

@@ -1,9 +1,7 @@
 //! Byte changes to a valid file, from one to many: what a bad disk, a bad line
 //! or a bad exporter makes of it.
 
-use std::ops::Range;
-
-use cases::insert::correct_form_length;
+use cases::insert::{chunk_spans, correct_form_length};
 use cases::random::Random;
 
 /// A file with changes of one of four strengths. A wrong head would hide
@@ -115,37 +113,10 @@ fn change_number(random: &mut Random, file: &mut [u8]) {
     file[at..at + 2].copy_from_slice(&new.to_be_bytes());
 }
 
-/// Where the chunks lie, as far as they are well formed.
-pub fn chunk_spans(file: &[u8]) -> Vec<Range<usize>> {
-    let mut spans = Vec::new();
-    let mut at = 12;
-    while let Some(field) = file.get(at + 4..at + 8) {
-        let field: [u8; 4] = field.try_into().expect("four bytes");
-        let length = u32::from_be_bytes(field) as usize;
-        let end = at + 8 + length + length % 2;
-        if end > file.len() {
-            break;
-        }
-        spans.push(at..end);
-        at = end;
-    }
-    spans
-}
-
 #[cfg(test)]
 mod tests {
     use super::*;
     use cases::assemble::{chunk, form, join, Kind};
-
-    #[test]
-    fn spans_are_the_chunks() {
-        let chunks = [chunk(b"TEXT", b"x"), chunk(b"ABCD", b"")];
-        let mut file = form(Kind::Lwo2, &join(&chunks));
-        assert_eq!(chunk_spans(&file), [12..22, 22..30]);
-        file.pop();
-        assert_eq!(chunk_spans(&file), vec![12..22; 1]);
-        assert_eq!(chunk_spans(&file[..9]), []);
-    }
 
     #[test]
     fn swapped_chunks_are_all_there() {

@@ -2,13 +2,13 @@
 
 use std::sync::OnceLock;
 
-use cases::insert::{boundaries, with_unlisted};
+use cases::insert::{boundaries, chunk_spans, with_unlisted};
 use cases::mutate::mutated;
 use cases::random::Random;
 use cases::valid::valid;
 use cases::{boundary, targeted};
 
-use crate::damage::{chunk_spans, damaged};
+use crate::damage::damaged;
 use crate::hexadecimal;
 
 /// Example files, one a line after its level: see `second/tests/readings.txt`.
@@ -115,6 +115,7 @@ fn near_faults() -> &'static [Vec<Vec<u8>>] {
         let all = targeted::targeted();
         let of = |number: u64| all.iter().filter(move |one| one.number == number);
         (4..=15)
+            .chain([19, 20])
             .map(|number| of(number).map(|one| one.file.clone()).collect())
             .collect()
     })

@@ -1,7 +1,8 @@
 //! "More room, or more that isn't ours, never bends an answer": asked of the
-//! library alone, by its own answers.
+//! library alone, by its own answers. The second program says only which chunk
+//! of a refused file is at fault.
 
-use cases::insert::inserted;
+use cases::insert::{inserted, kind_of, known_boundaries};
 use cases::random::Random;
 use cases::unlisted::unlisted_chunk;
 use second::limits::FILE_BYTES;
@@ -50,27 +51,34 @@ fn put_front<T: Copy>(table: &mut [T], front: &[T]) {
     table[..front.len()].copy_from_slice(front);
 }
 
-/// One more unlisted chunk at a boundary: the same mesh and one more skipped;
-/// and where the file is refused for a later chunk, the same number, with the
-/// place moved by the chunk that was put in front.
+/// One more unlisted chunk at a boundary: the same mesh and one more skipped,
+/// or the same refusal, moved by that chunk exactly where the chunk at fault
+/// lies behind it.
 pub fn one_more_chunk(
     library: &dyn Library,
     random: &mut Random,
     file: &[u8],
     told: &Answer,
 ) -> Result<(), String> {
-    let Some(boundaries) = boundaries(file, told) else {
+    if (1..=3).contains(&told.number) {
+        // The file is refused as a whole, and may have no chunks.
         return Ok(());
-    };
-    let at = *random.pick(&boundaries);
-    let chunk = unlisted_chunk(random, cases::insert::kind_of(file));
+    }
+    let at = *random.pick(&known_boundaries(file));
+    let chunk = unlisted_chunk(random, kind_of(file));
     if file.len() + chunk.len() > FILE_BYTES {
         return Ok(());
     }
     let longer = inserted(file, at, &chunk);
     let (before, mesh) = read_exactly(library, random, file, told);
     let (after, same) = read_exactly(library, random, &longer, told);
-    let expected = expected(&before, chunk.len());
+    let expected = if before.number == 0 {
+        one_more_skipped(&before)
+    } else if chunk_at_fault(file).is_some_and(|fault| fault >= at) {
+        moved(&before, chunk.len())
+    } else {
+        before
+    };
     let place = format!("one more chunk of {} bytes at {at}", chunk.len());
     if after != expected {
         return Err(format!(
@@ -85,33 +93,24 @@ pub fn one_more_chunk(
     Ok(())
 }
 
-/// The answer for a file with one more unlisted chunk.
-fn expected(before: &Answer, chunk_bytes: usize) -> Answer {
-    let mut answer = *before;
-    if answer.number == 0 {
-        answer.skipped += 1;
-    } else {
-        answer.place += chunk_bytes as u64;
+fn one_more_skipped(before: &Answer) -> Answer {
+    Answer {
+        skipped: before.skipped + 1,
+        ..*before
     }
-    answer
 }
 
-/// The offsets at which a chunk may be put in: all boundaries of an accepted
-/// file, those up to the chunk at fault of a refused one, and none where the
-/// file is refused as a whole.
-fn boundaries(file: &[u8], told: &Answer) -> Option<Vec<usize>> {
-    let last = match told.number {
-        0 => file.len(),
-        1..=3 => return None,
-        _ => told.place as usize,
-    };
-    let mut offsets = vec![12];
-    let mut at = 12;
-    while at < last {
-        let bytes: [u8; 4] = file.get(at + 4..at + 8)?.try_into().ok()?;
-        let length = u32::from_be_bytes(bytes) as usize;
-        at += 8 + length + length % 2;
-        offsets.push(at);
+fn moved(before: &Answer, bytes: usize) -> Answer {
+    Answer {
+        place: before.place + bytes as u64,
+        ..*before
     }
-    (at == last).then_some(offsets)
+}
+
+/// The offset of the chunk at fault, which is the second program's to say. The
+/// place that is told does not: an item that is missing at the end of its
+/// chunk would begin where the next chunk begins.
+fn chunk_at_fault(file: &[u8]) -> Option<usize> {
+    let refusal = second::rules(file).err()?;
+    Some(refusal.chunk as usize)
 }

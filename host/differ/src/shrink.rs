@@ -3,11 +3,9 @@
 use std::time::{Duration, Instant};
 
 use cases::assemble::{chunk, Tag};
-use cases::insert::correct_form_length;
+use cases::insert::{chunk_spans, correct_form_length};
 use lwo::{POINT_WORDS, POLYGON_WORDS, RECORD_WORDS};
 use second::Tables;
-
-use crate::damage::chunk_spans;
 
 /// After so many tries, or so much time, the case is small enough.
 const TRIES: usize = 3_000;

@@ -40,7 +40,7 @@ fn check_meshes(list: impl Iterator<Item = meshes::Named>) -> Counts {
 fn on_fixed_files() {
     let counts = check_files(files::fixed().into_iter());
     // 1 takes a file of over 16 MB, which is among the large ones.
-    for number in (0..=15).filter(|&number| number != 1) {
+    for number in (0..=15).chain([19, 20]).filter(|&number| number != 1) {
         assert_ne!(counts.files[number], 0, "no file answers {number}");
     }
     assert_ne!(counts.reads_no_room, 0);
@@ -67,7 +67,7 @@ fn on_generated_files() {
     let counts = check_files(list);
     assert_eq!(counts.file_count(), FILES);
     // The mixture must reach most numbers, or it tests little.
-    for number in (0..=15).filter(|&number| number != 1) {
+    for number in (0..=15).chain([19, 20]).filter(|&number| number != 1) {
         assert!(counts.files[number] >= 20, "{number} is rare: {counts}");
     }
     assert!(counts.files[0] >= FILES / 4, "{counts}");

@@ -6,7 +6,7 @@ use differ::guarded::Guarded;
 use differ::lent::Lent;
 use differ::library::Library;
 use differ::{check, files, meshes};
-use second::{Answer, Tables, Written};
+use second::{Answer, Fault, Refusal, Tables, Written};
 
 /// The words of an entry, to be multiplied by a count.
 const POINT_WORDS: u64 = lwo::POINT_WORDS as u64;
@@ -58,14 +58,37 @@ fn reads_right(_: &mut Lent, _: &mut Answer) {}
 
 fn writes_right(_: &mut Guarded<u8>, _: &mut Written) {}
 
+/// The second program as it is.
+const RIGHT: Wrong = Wrong {
+    read: reads_right,
+    write: writes_right,
+};
+
+/// The second program with a mistake in what it tells of a refusal.
+struct WrongRefusal<F>(F);
+
+impl<F: Fn(&Refusal, &mut Answer)> Library for WrongRefusal<F> {
+    fn read(&self, file: &Guarded<u8>, lent: &mut Lent) -> Answer {
+        let mut answer = RIGHT.read(file, lent);
+        if let Err(refusal) = second::rules(file.content()) {
+            (self.0)(&refusal, &mut answer);
+        }
+        answer
+    }
+
+    fn write(&self, lent: &Lent, out: &mut Guarded<u8>) -> Written {
+        RIGHT.write(lent, out)
+    }
+}
+
 /// What is said of the first of some hundred files on which it is found out.
-fn found_in_files(library: &Wrong) -> Option<String> {
+fn found_in_files(library: &dyn Library) -> Option<String> {
     let generated = (0..300).map(|number| files::generated(5, number));
     let mut all = files::fixed().into_iter().take(200).chain(generated);
     all.find_map(|one| check::file(library, &one.file).err())
 }
 
-fn found_in_meshes(library: &Wrong) -> Option<String> {
+fn found_in_meshes(library: &dyn Library) -> Option<String> {
     let generated = (0..100).map(|number| meshes::generated(5, number));
     let mut all = meshes::fixed().into_iter().chain(generated);
     all.find_map(|one| check::mesh(library, &one.tables).err())
@@ -94,12 +117,8 @@ fn must_find_writer(write: WrongWrite, words: &str) {
 
 #[test]
 fn the_second_program_itself_is_right() {
-    let right = Wrong {
-        read: reads_right,
-        write: writes_right,
-    };
-    assert_eq!(found_in_files(&right), None);
-    assert_eq!(found_in_meshes(&right), None);
+    assert_eq!(found_in_files(&RIGHT), None);
+    assert_eq!(found_in_meshes(&RIGHT), None);
 }
 
 #[test]
@@ -113,6 +132,85 @@ fn a_wrong_answer() {
     must_find_reader(|_, answer| answer.details = 0, "the answer is");
     must_find_reader(|_, answer| answer.skipped = 0, "the answer is");
     must_find_reader(|_, answer| answer.name_bytes ^= 1, "the answer is");
+}
+
+/// Every fault has files of its own among the fixed ones.
+#[track_caller]
+fn must_find_refusal(tell: impl Fn(&Refusal, &mut Answer)) {
+    let library = WrongRefusal(tell);
+    let mut all = files::fixed().into_iter();
+    let said = all.find_map(|one| check::file(&library, &one.file).err());
+    let said = said.expect("the mistake was not found out");
+    assert!(said.contains("the answer is"), "{said}");
+}
+
+/// What is told of one fault is changed.
+#[track_caller]
+fn must_find_fault(fault: Fault, change: impl Fn(&mut Answer)) {
+    must_find_refusal(|refusal, answer| {
+        if refusal.fault == fault {
+            change(answer);
+        }
+    });
+}
+
+/// "Number 6 stays for wrong body lengths (SIDE's is two), an item (no string)
+/// cut by its chunk's end gets 19, a string without terminator or zero pad
+/// gets 20."
+#[test]
+fn a_wrong_number_of_what_is_cut() {
+    for number in [6, 20] {
+        must_find_fault(Fault::ItemCut, |answer| answer.number = number);
+    }
+    for fault in [Fault::StringTerminator, Fault::StringPad] {
+        for number in [6, 19] {
+            must_find_fault(fault, |answer| answer.number = number);
+        }
+    }
+    for fault in [Fault::BodyLength, Fault::BytesLeftOver] {
+        must_find_fault(fault, |answer| answer.number = 19);
+    }
+}
+
+/// "the offset of the first byte of the header, item or string at fault".
+#[test]
+fn a_wrong_place_of_a_fault() {
+    // That of the chunk, and one that counts from the chunk.
+    must_find_refusal(|refusal, answer| answer.place = refusal.chunk);
+    must_find_refusal(|refusal, answer| answer.place -= refusal.chunk);
+    must_find_refusal(|refusal, answer| {
+        if refusal.fault == Fault::ItemCut {
+            answer.place = refusal.chunk;
+        }
+    });
+    // A byte too late or too early.
+    for fault in [
+        Fault::ItemCut,
+        Fault::StringTerminator,
+        Fault::StringPad,
+        Fault::NotFinite,
+        Fault::VertexNumber,
+        Fault::NameTwice,
+    ] {
+        must_find_fault(fault, |answer| answer.place += 1);
+        must_find_fault(fault, |answer| answer.place -= 1);
+    }
+}
+
+/// "a wrong body length, a bad pad or BLOK's 15 is its own header's fault".
+#[test]
+fn a_body_s_place_for_its_header_s() {
+    for fault in [
+        Fault::BodyLength,
+        Fault::BytesLeftOver,
+        Fault::PadNotZero,
+        Fault::BlockEmpty,
+        Fault::BlockHeader,
+    ] {
+        must_find_fault(fault, |answer| answer.place += 6);
+    }
+    // SIDE's 15 is its value's.
+    must_find_fault(Fault::SideValue, |answer| answer.place -= 6);
 }
 
 /// Needs that are told only where there is no room, or only where there is.
@@ -295,19 +393,13 @@ fn an_answer_by_the_contents_before() {
                 .content()
                 .first()
                 .is_some_and(|word| word % 2 == 1);
-            let mut answer = right().read(file, lent);
+            let mut answer = RIGHT.read(file, lent);
             answer.skipped += u64::from(odd && answer.number == 0);
             answer
         }
 
         fn write(&self, lent: &Lent, out: &mut Guarded<u8>) -> Written {
-            right().write(lent, out)
-        }
-    }
-    fn right() -> Wrong {
-        Wrong {
-            read: reads_right,
-            write: writes_right,
+            RIGHT.write(lent, out)
         }
     }
     let mut all = (0..100).map(|number| files::generated(5, number));
@@ -382,5 +474,47 @@ fn one_more_chunk_is_counted() {
         differ::more::one_more_chunk(&library, random, &file, &needs).err()
     });
     let words = said.next().expect("the mistake was not found out");
+    assert!(words.contains("one more chunk"), "{words}");
+}
+
+/// One point, and a POLS whose only vertex is missing, so that its place is the
+/// offset of the chunk NEXT.
+const MISSING_VERTEX: &[u8] = b"FORM\0\0\0\x2eLWO2\
+    PNTS\0\0\0\x0c\0\0\0\0\0\0\0\0\0\0\0\0POLS\0\0\0\x06FACE\0\x01NEXT\0\0\0\0";
+
+/// What is said of a library by one more chunk at every boundary of that file.
+fn found_by_one_more_chunk(library: &dyn Library) -> Option<String> {
+    let told = second::read(MISSING_VERTEX, &mut Tables::default());
+    assert_eq!((told.number, told.place), (19, 46));
+    assert_eq!(MISSING_VERTEX[46..50], *b"NEXT");
+    (0..60).find_map(|seed| {
+        let random = &mut Random::new(seed);
+        differ::more::one_more_chunk(library, random, MISSING_VERTEX, &told).err()
+    })
+}
+
+/// A chunk that is put in before NEXT lies behind the chunk at fault: the
+/// refusal stays where it is, though its place is that of NEXT.
+#[test]
+fn one_more_chunk_moves_what_lies_behind_it() {
+    struct AtNext;
+    impl Library for AtNext {
+        fn read(&self, file: &Guarded<u8>, lent: &mut Lent) -> Answer {
+            let next = file.content().windows(4).position(|tag| tag == b"NEXT");
+            Answer {
+                place: next.expect("the chunk NEXT") as u64,
+                ..RIGHT.read(file, lent)
+            }
+        }
+
+        fn write(&self, lent: &Lent, out: &mut Guarded<u8>) -> Written {
+            RIGHT.write(lent, out)
+        }
+    }
+    assert_eq!(found_by_one_more_chunk(&RIGHT), None);
+    let words = found_by_one_more_chunk(&AtNext).expect("the mistake was not found out");
+    assert!(words.contains(" at 46: the answer is"), "{words}");
+    let never_moves = WrongRefusal(|_: &Refusal, answer: &mut Answer| answer.place = 46);
+    let words = found_by_one_more_chunk(&never_moves).expect("the mistake was not found out");
     assert!(words.contains("one more chunk"), "{words}");
 }

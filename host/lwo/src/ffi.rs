@@ -6,7 +6,8 @@
 pub struct LwoAnswer {
     /// The number in the table of refusals, 0 if the file is accepted.
     pub number: u64,
-    /// The place of the fault, 0 if there is none or it is the whole file's.
+    /// The offset of the first byte of the header, item or string at fault, or of where it would
+    /// begin; 0 if there is none or the fault is the whole file's.
     pub place: u64,
     /// The five needs, full on 0 and 16 and 0 else: points,
     pub points: u64,

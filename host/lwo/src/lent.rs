@@ -148,7 +148,7 @@ mod tests {
         let answer = read(
             &file, points, polygons, vertices, names, &mut bytes, records,
         );
-        assert_eq!((answer.number, answer.place, answer.points), (7, 12, 0));
+        assert_eq!((answer.number, answer.place, answer.points), (7, 28, 0));
         assert_eq!((words, bytes), ([[8; 4]; 5], [9; 4]));
     }
 

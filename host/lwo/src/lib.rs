@@ -28,13 +28,15 @@
 //! # Ok::<(), lwo::Refusal>(())
 //! ```
 //!
-//! A file that is not accepted is refused with a number, a place and a sentence:
+//! A file that is not accepted is refused with a number, a place and a sentence. The place is the
+//! offset of the first byte of what is at fault:
 //!
 //! ```
-//! let refusal = lwo::Mesh::read(b"FORM\0\0\0\x05LWO2").unwrap_err();
-//! assert_eq!((refusal.number(), refusal.place), (3, 0));
-//! assert_eq!(refusal.kind, lwo::RefusalKind::FormLength);
-//! assert!(refusal.to_string().starts_with("refused 3 at 0: the length"));
+//! // A list of names, at 12, whose second name, at 24, has no zero byte at its end.
+//! let refusal = lwo::Mesh::read(b"FORM\0\0\0\x12LWO2TAGS\0\0\0\x06Oak\0As").unwrap_err();
+//! assert_eq!((refusal.number(), refusal.place), (20, 24));
+//! assert_eq!(refusal.kind, lwo::RefusalKind::StringOpen);
+//! assert!(refusal.to_string().starts_with("refused 20 at 24: a name"));
 //! ```
 //!
 //! [`Mesh::open`] reads a file by its name, and [`MeshBuilder`] makes a mesh from plain data.

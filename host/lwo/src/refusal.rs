@@ -13,6 +13,7 @@ pub(crate) const ACCEPTED: u64 = 0;
 /// ```
 /// use lwo::{Refusal, RefusalKind};
 ///
+/// // The vertex at fault begins at byte 120 of the file.
 /// let refusal = Refusal::new(RefusalKind::VertexNumber, 120);
 /// assert_eq!(refusal.number(), 9);
 /// assert_eq!(
@@ -25,7 +26,9 @@ pub(crate) const ACCEPTED: u64 = 0;
 pub struct Refusal {
     /// What is wrong.
     pub kind: RefusalKind,
-    /// The offset of the tag of the top-level chunk at fault; 0 where no chunk is at fault.
+    /// The offset in the file of the first byte of the header, item or string at fault. Where that
+    /// is missing altogether, the offset at which it would begin, which may be the file's length.
+    /// 0 where no byte is at fault: on the numbers 1, 2, 3, 16, 17 and 18.
     pub place: u64,
 }
 

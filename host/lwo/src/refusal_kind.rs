@@ -15,7 +15,7 @@ pub enum RefusalKind {
     Chunk = 4,
     /// Something that must come earlier is missing, or a single chunk comes twice.
     Order = 5,
-    /// The body of a chunk has the wrong length, or an item or string in it is cut.
+    /// The body of a chunk has the wrong length.
     Body = 6,
     /// A coordinate or level is not finite.
     NotFinite = 7,
@@ -41,12 +41,17 @@ pub enum RefusalKind {
     NotAMesh = 17,
     /// The canonical file would be too long.
     OutTooLong = 18,
+    /// A number or type is cut by the end of its chunk, or missing.
+    ItemCut = 19,
+    /// A name or other string has no zero byte at its end, or not the second one that makes it
+    /// even.
+    StringOpen = 20,
 }
 
 use RefusalKind as K;
 
 /// Every kind in the order of its number, with its sentence.
-const TABLE: [(RefusalKind, &str); 18] = [
+const TABLE: [(RefusalKind, &str); 20] = [
     (K::FileTooLong, "the file is longer than 16,777,216 bytes"),
     (
         K::NotAnObject,
@@ -67,11 +72,7 @@ const TABLE: [(RefusalKind, &str); 18] = [
         "something that must come before this chunk is missing, or a chunk that may come only \
          once comes twice",
     ),
-    (
-        K::Body,
-        "the body of a chunk has the wrong length, an item in it is cut, or a name in it does not \
-         end as it should",
-    ),
+    (K::Body, "the body of a chunk has the wrong length"),
     (
         K::NotFinite,
         "a coordinate or a surface level is not a finite number",
@@ -114,6 +115,15 @@ const TABLE: [(RefusalKind, &str); 18] = [
     (
         K::OutTooLong,
         "the canonical file would be longer than 16,777,216 bytes",
+    ),
+    (
+        K::ItemCut,
+        "a number or type is cut by the end of its chunk, or missing",
+    ),
+    (
+        K::StringOpen,
+        "a name or other string has no zero byte at its end, or not the second one that makes it \
+         even",
     ),
 ];
 
@@ -159,7 +169,7 @@ mod tests {
     #[test]
     fn the_table_is_in_the_order_of_the_numbers() {
         let numbers = RefusalKind::all().map(RefusalKind::number);
-        assert!(numbers.eq(1..=18));
+        assert!(numbers.eq(1..=20));
     }
 
     #[test]
@@ -169,7 +179,7 @@ mod tests {
         for kind in RefusalKind::all() {
             assert_eq!(RefusalKind::from_number(kind.number()), Some(kind));
         }
-        for number in [0, 19, u64::MAX] {
+        for number in [0, 21, u64::MAX] {
             assert_eq!(RefusalKind::from_number(number), None);
         }
     }
@@ -197,7 +207,10 @@ mod tests {
             "no room",
             "not hold a mesh",
             "canonical file",
+            "cut by the end",
+            "zero byte",
         ];
+        assert_eq!(words.len(), RefusalKind::all().len());
         for (kind, word) in RefusalKind::all().zip(words) {
             assert!(kind.sentence().contains(word), "{kind:?}");
         }

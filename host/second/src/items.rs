@@ -2,7 +2,8 @@
 //!
 //! A cursor walks over one body. Each method reads one item; an item that
 //! reaches past the body's end is cut, and that is answered before its value
-//! is looked at.
+//! is looked at. What is wrong with an item lies at its first byte, which is
+//! the body's end where no byte of it is there.
 
 use crate::refusal::{Fault, Flaw};
 
@@ -38,6 +39,7 @@ impl<'a> Cursor<'a> {
         self.rest.is_empty()
     }
 
+    /// A fault of the next item.
     fn flaw(&self, fault: Fault) -> Flaw {
         Flaw::new(fault, self.at)
     }

@@ -18,7 +18,7 @@ commands:
   canonical  write the mesh as one canonical LWO2 file; a refusal goes to
              standard error, with exit code 1
   answer     print every field of the answer on one line; a refusal's line
-             also has the fault and its exact offset
+             also has the fault and the offset of its top-level chunk
 ";
 
 fn main() -> ExitCode {
@@ -81,11 +81,11 @@ fn answer() -> io::Result<ExitCode> {
             )
         }
         Err(refusal) => format!(
-            "number {} place {} points 0 polygons 0 vertices 0 names 0 name-bytes 0 skipped 0 details 0 fault {:?} exact {}\n",
+            "number {} place {} points 0 polygons 0 vertices 0 names 0 name-bytes 0 skipped 0 details 0 fault {:?} chunk {}\n",
             refusal.number(),
             refusal.place(),
             refusal.fault,
-            refusal.exact,
+            refusal.chunk,
         ),
     };
     say(line.as_bytes())?;

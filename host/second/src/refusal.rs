@@ -1,11 +1,13 @@
 //! What can be wrong with a file, and what is told about it.
 //!
-//! A fault is kept finer than its number, and with it both the offset of the
-//! top-level chunk and the exact offset of the header, item or string at
-//! fault. Today the chunk's offset is told; the exact one is kept so that
-//! telling it is a change in one place.
+//! A fault is kept finer than its number. Beside the place that is told, "the
+//! offset of the first byte of the header, item or string at fault", stands
+//! the offset of the top-level chunk that it lies in, which is not told: the
+//! place of an item that is missing altogether can be where the next chunk
+//! begins, so the chunk cannot be had from it.
 
-/// One thing that is wrong, each with one number of document 01's table.
+/// One thing that is wrong, each with one number: those up to 15 are of
+/// document 01's table, 19 and 20 of request #101.
 #[derive(Clone, Copy, Debug, PartialEq, Eq, Hash)]
 pub enum Fault {
     /// 1: "file too long".
@@ -36,18 +38,18 @@ pub enum Fault {
     PolygonsMissing,
     /// 5: "a single chunk comes twice".
     ChunkTwice,
-    /// 6: "wrong body length", where the length is fixed, or PNTS is not
-    /// whole points.
+    /// 6: "wrong body length", where the length is fixed ("SIDE's is two"), or
+    /// PNTS is not whole points.
     BodyLength,
     /// 6: "LWOB PNTS over 65,536 points".
     TooManyPoints,
     /// 6: "bytes left over" after the items of a body without fixed length.
     BytesLeftOver,
-    /// 6: "item cut by its chunk's end".
+    /// 19: "an item (no string) cut by its chunk's end".
     ItemCut,
-    /// 6: "string without terminator".
+    /// 20: "a string without terminator".
     StringTerminator,
-    /// 6: string without "zero pad".
+    /// 20: a string without "zero pad".
     StringPad,
     /// 7: "coordinate or level not finite".
     NotFinite,
@@ -78,7 +80,9 @@ pub enum Fault {
 }
 
 impl Fault {
-    /// The number of document 01's table.
+    /// The number that is told: "Number 6 stays for wrong body lengths (SIDE's
+    /// is two), an item (no string) cut by its chunk's end gets 19, a string
+    /// without terminator or zero pad gets 20."
     pub fn number(self) -> u64 {
         match self {
             Fault::FileTooLong => 1,
@@ -93,12 +97,7 @@ impl Fault {
             | Fault::NamesMissing
             | Fault::PolygonsMissing
             | Fault::ChunkTwice => 5,
-            Fault::BodyLength
-            | Fault::TooManyPoints
-            | Fault::BytesLeftOver
-            | Fault::ItemCut
-            | Fault::StringTerminator
-            | Fault::StringPad => 6,
+            Fault::BodyLength | Fault::TooManyPoints | Fault::BytesLeftOver => 6,
             Fault::NotFinite => 7,
             Fault::VertexCount => 8,
             Fault::VertexNumber => 9,
@@ -108,12 +107,15 @@ impl Fault {
             Fault::NameTooLong | Fault::NameTwice => 13,
             Fault::DetailNegative => 14,
             Fault::SideValue | Fault::BlockEmpty | Fault::BlockHeader => 15,
+            Fault::ItemCut => 19,
+            Fault::StringTerminator | Fault::StringPad => 20,
         }
     }
 }
 
-/// A fault and the offset of the first byte of what is at fault. The readers
-/// of items and bodies answer this; they need not know their chunk.
+/// A fault and the offset of the first byte of the header, item or string at
+/// fault. The readers of items and bodies answer this; they need not know
+/// their chunk.
 #[derive(Clone, Copy, Debug, PartialEq, Eq)]
 pub struct Flaw {
     pub fault: Fault,
@@ -130,11 +132,9 @@ impl Flaw {
 #[derive(Clone, Copy, Debug, PartialEq, Eq)]
 pub struct Refusal {
     pub fault: Fault,
-    /// The offset of the top-level chunk's tag, 0 where no chunk is at fault.
+    /// The offset of the tag of the top-level chunk at fault, 0 where none is.
     pub chunk: u64,
-    /// The offset of the first byte of the header, item or string at fault,
-    /// 0 where no chunk is at fault.
-    pub exact: u64,
+    place: u64,
 }
 
 impl Refusal {
@@ -143,7 +143,7 @@ impl Refusal {
         Refusal {
             fault,
             chunk: 0,
-            exact: 0,
+            place: 0,
         }
     }
 
@@ -152,7 +152,7 @@ impl Refusal {
         Refusal {
             fault: flaw.fault,
             chunk: chunk as u64,
-            exact: flaw.at as u64,
+            place: flaw.at as u64,
         }
     }
 
@@ -161,8 +161,11 @@ impl Refusal {
         self.fault.number()
     }
 
-    /// The place that is told: "the offset of the top-level chunk's tag".
+    /// The place that is told: "the offset of the first byte of the header,
+    /// item or string at fault". For an item or string that is missing
+    /// altogether it is where its first byte would lie, the end of its body,
+    /// and so it may be the file's length.
     pub fn place(&self) -> u64 {
-        self.chunk
+        self.place
     }
 }

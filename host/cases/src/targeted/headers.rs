@@ -1,5 +1,5 @@
 //! 4: "header cut, tag byte outside 32..126, length past the parent's end, pad
-//! byte missing or not zero", at every level.
+//! byte missing or not zero", at every level, at the first byte of that header.
 
 use super::settings::Setting;
 use super::{Catalogue, Fault, KINDS};
@@ -130,6 +130,12 @@ pub fn surf_front(kind: Kind) -> Vec<u8> {
         Kind::Lwob => string(b"a"),
         Kind::Lwo2 => join(&[string(b"a"), string(b"")]),
     }
+}
+
+/// A SURF with these sub-chunks.
+pub fn surf(kind: Kind, subs: &[&[u8]]) -> Vec<u8> {
+    let body = join(&[&surf_front(kind)[..], &join(subs)]);
+    chunk(b"SURF", &body)
 }
 
 /// SURF's own sub-chunks, the first of them and a later one.

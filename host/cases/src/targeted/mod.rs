@@ -1,6 +1,6 @@
 //! Targeted files: for every refusal number a file at every place where
-//! document 01 allows it. What each must answer is said here, from the
-//! document, and worked out by no reader.
+//! document 01 allows it. What each must answer is said here, from that
+//! document and from request #101 of document 02, and worked out by no reader.
 
 mod body;
 mod forms;
@@ -9,6 +9,7 @@ mod items;
 mod missing;
 mod names;
 mod order;
+mod places;
 mod polygons;
 mod settings;
 mod surfaces;
@@ -24,12 +25,12 @@ pub struct Targeted {
     pub file: Vec<u8>,
     /// The number that must be told.
     pub number: u64,
-    /// The place that must be told: "the offset of the top-level chunk's tag",
-    /// 0 for numbers 1 to 3.
+    /// The place that must be told: "the offset of the first byte of the
+    /// header, item or string at fault", 0 for numbers 1 to 3.
     pub place: u64,
-    /// The offset of the first byte of the header, item or string at fault.
-    /// It is not told yet; request #101 asks for it.
-    pub exact: u64,
+    /// The offset of the tag of the top-level chunk at fault, which is not
+    /// told; 0 for numbers 1 to 3.
+    pub chunk: u64,
 }
 
 /// The whole catalogue.
@@ -43,6 +44,7 @@ pub fn targeted() -> Vec<Targeted> {
     names::add(&mut catalogue);
     surfaces::add(&mut catalogue);
     order::add(&mut catalogue);
+    places::add(&mut catalogue);
     catalogue.list
 }
 
@@ -86,14 +88,14 @@ impl Catalogue {
     }
 
     fn add_content(&mut self, name: &str, before: &Setting, content: Vec<u8>, fault: &Fault) {
-        let place = 12 + before.content().len();
+        let chunk = 12 + before.content().len();
+        let place = chunk + fault.offset;
         let file = form(before.kind, &content);
         let name = format!("{}-{name}", before.kind.word());
-        let exact = place + fault.offset;
-        self.push(&name, file, fault.number, place as u64, exact as u64);
+        self.push(&name, file, fault.number, place as u64, chunk as u64);
     }
 
-    fn push(&mut self, name: &str, file: Vec<u8>, number: u64, place: u64, exact: u64) {
+    fn push(&mut self, name: &str, file: Vec<u8>, number: u64, place: u64, chunk: u64) {
         let letters = |c: char| c.is_ascii_lowercase() || c.is_ascii_digit() || c == '-';
         assert!(name.chars().all(letters), "{name}");
         self.list.push(Targeted {
@@ -101,7 +103,7 @@ impl Catalogue {
             file,
             number,
             place,
-            exact,
+            chunk,
         });
     }
 }
@@ -127,7 +129,7 @@ mod tests {
     }
 
     /// One point, and a face of one vertex whose index has only bit 23: no
-    /// vertex of one point, so 9 at the POLS chunk.
+    /// vertex of one point, so 9 at the index, the last four bytes.
     #[test]
     fn the_highest_bit_of_an_index_counts() {
         let file = form(
@@ -143,7 +145,39 @@ mod tests {
         assert_eq!(digits, known);
         let list = targeted();
         let one = list.iter().find(|one| one.file == file).expect("the file");
-        assert_eq!((one.number, one.place), (9, 32));
+        assert_eq!((one.number, one.place, one.chunk), (9, 46, 32));
+    }
+
+    /// The place lies in the file, or at its end, and not before its chunk.
+    #[test]
+    fn the_places_lie_in_the_files() {
+        for one in targeted() {
+            let name = &one.name;
+            assert!(one.place <= one.file.len() as u64, "{name}");
+            if one.number <= 3 {
+                assert_eq!((one.place, one.chunk), (0, 0), "{name}");
+            } else {
+                assert!(12 <= one.chunk && one.chunk <= one.place, "{name}");
+            }
+        }
+    }
+
+    /// Only what is missing altogether has the file's length as its place.
+    #[test]
+    fn some_items_and_strings_would_begin_where_the_file_ends() {
+        let list = targeted();
+        let at_end = |number: u64, kind: &str| {
+            let prefix = format!("{number:02}-{kind}-");
+            let named = list.iter().filter(|one| one.name.starts_with(&prefix));
+            let ends = named.filter(|one| one.place == one.file.len() as u64);
+            ends.count()
+        };
+        for number in 2..=20 {
+            for kind in ["lwob", "lwo2"] {
+                let some = at_end(number, kind) > 0;
+                assert_eq!(some, number == 19 || number == 20, "{number} {kind}");
+            }
+        }
     }
 
     #[test]
@@ -153,6 +187,6 @@ mod tests {
             *counts.entry(one.number).or_default() += 1;
         }
         let numbers: Vec<u64> = counts.keys().copied().collect();
-        assert_eq!(numbers, (2..=15).collect::<Vec<u64>>());
+        assert_eq!(numbers, (2..=15).chain([19, 20]).collect::<Vec<u64>>());
     }
 }

@@ -1,5 +1,6 @@
-//! Strings: 6 for each string without terminator or zero pad, and 13 "in TAGS
-//! or SRFS only: name over 255 bytes, or equal to an earlier name there".
+//! Strings: 20 for each "string without terminator or zero pad", at its first
+//! byte, and 13 "in TAGS or SRFS only: name over 255 bytes, or equal to an
+//! earlier name there".
 
 use super::headers::surf_front;
 use super::settings::Setting;
@@ -52,7 +53,7 @@ fn add_list_strings(catalogue: &mut Catalogue, kind: Kind) {
             let list = chunk(list_tag(kind), &body);
             let name = format!("names-{which}-{name}");
             let fault = Fault {
-                number: 6,
+                number: 20,
                 offset: 8 + front.len(),
             };
             catalogue.add_chunk(&name, &Setting::empty(kind), &list, fault);
@@ -106,7 +107,8 @@ fn add_equal_names(catalogue: &mut Catalogue, kind: Kind) {
     }
 }
 
-/// The name of each SURF, and LWO2's source string. An empty body has no name.
+/// The name of each SURF, and LWO2's source string. Where no byte of it is
+/// there, its place is the chunk's end.
 fn add_surf_strings(catalogue: &mut Catalogue) {
     let mut strings = unfinished();
     strings.push(("nothing", Vec::new()));
@@ -120,7 +122,7 @@ fn add_surf_strings(catalogue: &mut Catalogue) {
             let surf = chunk(b"SURF", &join(&[&front[..], bytes]));
             let name = format!("surf-{which}-{name}");
             let fault = Fault {
-                number: 6,
+                number: 20,
                 offset: 8 + front.len(),
             };
             catalogue.add_chunk(&name, &Setting::ready(kind), &surf, fault);
@@ -145,7 +147,7 @@ fn add_block_strings(catalogue: &mut Catalogue) {
             let surf = chunk(b"SURF", &join(&[&front[..], &block, &behind]));
             let name = format!("{word}-string-{name}");
             let fault = Fault {
-                number: 6,
+                number: 20,
                 offset: 8 + front.len() + 12,
             };
             catalogue.add_chunk(&name, &Setting::lwo2(), &surf, fault);

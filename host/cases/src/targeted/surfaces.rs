@@ -1,5 +1,5 @@
-//! The sub-chunks of SURF: 6 for wrong lengths, cut items and bytes left over,
-//! 7 for levels, 15 for SIDE and BLOK.
+//! The sub-chunks of SURF: 6 for wrong lengths and bytes left over, 19 for cut
+//! items, 7 for levels, 15 for SIDE and BLOK.
 
 use super::body::{Body, Role};
 use super::headers::surf_front;
@@ -17,7 +17,7 @@ pub fn add(catalogue: &mut Catalogue) {
 }
 
 /// LWOB's sub-chunks and their fixed lengths.
-const FIXED: [(&str, &[u8; 4], usize); 12] = [
+pub const FIXED: [(&str, &[u8; 4], usize); 12] = [
     ("colr", b"COLR", 4),
     ("flag", b"FLAG", 2),
     ("lumi", b"LUMI", 2),
@@ -94,7 +94,7 @@ fn add_lwob_levels(catalogue: &mut Catalogue) {
 }
 
 /// LWO2's colour and levels: so many floats and a VX.
-const VALUES: [(&str, &[u8; 4], usize); 6] = [
+pub const VALUES: [(&str, &[u8; 4], usize); 6] = [
     ("colr", b"COLR", 3),
     ("diff", b"DIFF", 1),
     ("lumi", b"LUMI", 1),
@@ -123,12 +123,13 @@ fn add_lwo2_values(catalogue: &mut Catalogue) {
     }
 }
 
-/// These bodies have no fixed length, so too short a body is an item cut.
+/// These bodies have no fixed length, so too short a body is an item cut: 19,
+/// at the item.
 fn add_value_cuts(catalogue: &mut Catalogue, word: &str, tag: &[u8; 4], body: &Body) {
     for (item, there, bytes) in body.cuts() {
         let name = format!("{word}-item-{item}-cut-to-{there}");
         let fault = Fault {
-            number: 6,
+            number: 19,
             offset: 6 + body.offset(item),
         };
         let sub = sub_chunk(tag, &bytes);
@@ -150,7 +151,8 @@ fn add_value_levels(catalogue: &mut Catalogue, word: &str, tag: &[u8; 4], body: 
     }
 }
 
-/// "Bodies are used up exactly".
+/// "Bodies are used up exactly": too long a body is 6, at the sub-chunk's own
+/// header.
 fn add_left_over(catalogue: &mut Catalogue, word: &str, tag: &[u8; 4], body: &Body) {
     for more in 1..5 {
         let bytes = join(&[&body.bytes()[..], &vec![0; more]]);
@@ -164,7 +166,7 @@ fn add_left_over(catalogue: &mut Catalogue, word: &str, tag: &[u8; 4], body: &Bo
     }
 }
 
-/// 15: "SIDE neither 1 nor 3".
+/// 15: "SIDE neither 1 nor 3", at the value.
 fn add_sides(catalogue: &mut Catalogue) {
     for value in [0, 2, 4, 5, 0x0100, 0x0101, 0x0300, 0x0301, 0x0303, 0xffff] {
         let sub = sub_chunk(b"SIDE", &u2(value));

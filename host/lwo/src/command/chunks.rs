@@ -1,41 +1,69 @@
-//! The top-level chunks of a file by their headers: for what is told of a file, not for what is
-//! read from it.
+//! Chunks and sub-chunks by their headers: for what is told of a file, not for what is read from
+//! it.
 
 /// Where the first chunk begins, behind FORM, its length and the type.
 const FIRST: usize = 12;
 
-/// Bytes of a header: a tag and a length.
-const HEADER: usize = 8;
-
+/// A chunk or sub-chunk whose header is whole.
 #[derive(Clone, Copy, Debug, PartialEq, Eq)]
 pub struct Chunk {
     pub tag: [u8; 4],
-    /// The offset of the tag, and that of what follows the chunk.
+    /// The offset of the tag.
     pub start: usize,
+    /// The offsets of the body's first byte, and of what follows its last one.
+    pub body: usize,
     pub end: usize,
 }
 
-/// The chunks in file order, the last of them one whose length goes past the file's end, if
-/// there is such a one.
-pub fn chunks(file: &[u8]) -> impl Iterator<Item = Chunk> + '_ {
-    let mut next = FIRST;
-    std::iter::from_fn(move || {
-        let start = next;
-        let (tag, rest) = file.get(start..)?.split_first_chunk::<4>()?;
-        let length = u32::from_be_bytes(*rest.first_chunk()?) as usize;
-        next = start + HEADER + length + length % 2;
-        Some(Chunk {
-            tag: *tag,
-            start,
-            end: next,
-        })
-    })
+impl Chunk {
+    /// The length of the body.
+    pub fn length(&self) -> usize {
+        self.end - self.body
+    }
+
+    /// The offset of what follows the chunk: an odd body has a pad byte behind it.
+    pub fn next(&self) -> usize {
+        self.end + self.length() % 2
+    }
 }
 
-/// The chunk that an offset lies in. The file's own header is in none.
-pub fn at(file: &[u8], offset: u64) -> Option<Chunk> {
-    let offset = usize::try_from(offset).ok()?;
-    chunks(file).find(|chunk| (chunk.start..chunk.end).contains(&offset))
+/// The type of a file, `LWOB` or `LWO2`; nothing where the file is too short for one.
+pub fn kind(file: &[u8]) -> &[u8] {
+    file.get(8..FIRST).unwrap_or_default()
+}
+
+/// The top-level chunks in file order, the last of them one whose length goes past the file's
+/// end, if there is such a one.
+pub fn chunks(file: &[u8]) -> impl Iterator<Item = Chunk> + '_ {
+    walk::<4>(file, FIRST)
+}
+
+/// The sub-chunks from an offset on, likewise. The bytes are those of the file up to the end of
+/// what holds them.
+pub fn sub_chunks(bytes: &[u8], from: usize) -> impl Iterator<Item = Chunk> + '_ {
+    walk::<2>(bytes, from)
+}
+
+/// A tag, and a length of so many bytes, are a header.
+fn walk<const LENGTH: usize>(bytes: &[u8], from: usize) -> impl Iterator<Item = Chunk> + '_ {
+    let mut next = from;
+    std::iter::from_fn(move || {
+        let start = next;
+        let (tag, rest) = bytes.get(start..)?.split_first_chunk::<4>()?;
+        let length = rest.first_chunk::<LENGTH>()?;
+        let body = start + tag.len() + length.len();
+        let chunk = Chunk {
+            tag: *tag,
+            start,
+            body,
+            end: body
+                + length
+                    .iter()
+                    .fold(0, |sum, &byte| sum * 256 + usize::from(byte)),
+        };
+        next = chunk.next();
+        Some(chunk)
+    })
 }
 
 /// The top-level tags that are read, by the kind of file; all others are skipped.
@@ -59,8 +87,7 @@ impl TagCount {
 
 /// The tags of an accepted file that are skipped, in the order in which they come first.
 pub fn skipped(file: &[u8]) -> Vec<TagCount> {
-    let kind = file.get(8..FIRST).unwrap_or_default();
-    let read = READ.iter().find(|(of, _)| of[..] == *kind);
+    let read = READ.iter().find(|(of, _)| of[..] == *kind(file));
     let read = read.map_or(&[][..], |(_, tags)| &tags[..]);
     let mut list: Vec<TagCount> = Vec::new();
     for chunk in chunks(file).filter(|chunk| !read.contains(&&chunk.tag)) {
@@ -103,25 +130,38 @@ mod tests {
 
     const FILE: &[u8] = b"FORM\0\0\0\x20LWO2NOTE\0\0\0\x01x\0LONG\0\0\0\x09abc";
 
-    #[test]
-    fn chunks_follow_each_other() {
-        let found: Vec<(&[u8], usize, usize)> = chunks(FILE)
-            .map(|chunk| match &chunk.tag {
-                b"NOTE" => (&b"NOTE"[..], chunk.start, chunk.end),
-                _ => (&b"LONG"[..], chunk.start, chunk.end),
-            })
-            .collect();
-        assert_eq!(found, [(&b"NOTE"[..], 12, 22), (&b"LONG"[..], 22, 40)]);
+    fn chunk(tag: &[u8; 4], start: usize, body: usize, end: usize) -> Chunk {
+        Chunk {
+            tag: *tag,
+            start,
+            body,
+            end,
+        }
     }
 
     #[test]
-    fn an_offset_lies_in_its_chunk() {
-        for (offset, tag) in [(12, b"NOTE"), (21, b"NOTE"), (22, b"LONG"), (33, b"LONG")] {
-            assert_eq!(at(FILE, offset).map(|chunk| chunk.tag), Some(*tag));
-        }
-        assert_eq!(at(FILE, 0), None);
-        assert_eq!(at(FILE, 11), None);
-        assert_eq!(at(FILE, 40), None);
+    fn chunks_follow_each_other() {
+        let found: Vec<Chunk> = chunks(FILE).collect();
+        assert_eq!(
+            found,
+            [chunk(b"NOTE", 12, 20, 21), chunk(b"LONG", 22, 30, 39)]
+        );
+    }
+
+    #[test]
+    fn sub_chunks_follow_each_other() {
+        let bytes = b"Oak\0SIDE\0\x02\0\x01GLOS\0\x01x\0COLR\0";
+        let found: Vec<Chunk> = sub_chunks(bytes, 4).collect();
+        assert_eq!(
+            found,
+            [chunk(b"SIDE", 4, 10, 12), chunk(b"GLOS", 12, 18, 19)]
+        );
+    }
+
+    #[test]
+    fn an_odd_body_has_a_pad_byte_behind_it() {
+        assert_eq!(chunk(b"NOTE", 12, 20, 21).next(), 22);
+        assert_eq!(chunk(b"NOTE", 12, 20, 22).next(), 22);
     }
 
     /// A header that is cut has no tag that could be told.

@@ -8,8 +8,8 @@ const HELP: &str = "\
 lwo reads LightWave object files of the kinds LWOB and LWO2.
 
   lwo check FILE...      tell on one line for each file whether it is accepted,
-                         and if not, what is wrong with it; -v tells also which
-                         chunks were skipped
+                         and if not, what is wrong with it and at which byte;
+                         -v tells also which chunks were skipped
   lwo boards FILE...     print for each surface name its faces, patches and
                          vertices, the size of the panel in millimetres and the
                          colour; and the counts of all files together
@@ -24,11 +24,12 @@ Put -- before names that begin with a minus sign. Where check or boards is given
 a folder, it reads the .lwo files in it and in the folders in it, but for hidden
 ones and links to folders.
 
-A refused file is told as 'refused 9 at 68 (POLS)': the number of what is wrong,
-where the chunk at fault begins, in bytes from the start of the file, and the
-chunk's tag. What the number means comes after it. A file may have up to
-16,777,216 bytes; a longer one is refused with 1. list prints the number and the
-place alone.
+A refused file is told as 'refused 9 at 86 (POLS at 68)': the number of what is
+wrong, the byte where it begins, counted from 0, and the chunk that this byte is
+in, with where that begins. What the number means comes after it, and then what
+was found there and what was expected. Where something is missing, the byte is
+the one where it would begin. A file may have up to 16,777,216 bytes; a longer
+one is refused with 1. list prints the number and the byte alone.
 
 With --json, check, boards and list print one JSON object a line: one for each
 file, and for boards of several files a last one with the total.

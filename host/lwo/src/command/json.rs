@@ -4,6 +4,7 @@ use std::fmt::Write;
 
 use lwo::{Counts, Escaped};
 
+use super::fault::{Expected, Fault};
 use super::input::Source;
 use super::rejection::Rejection;
 
@@ -85,18 +86,34 @@ pub fn rejected(source: &Source, rejection: &Rejection) -> String {
     let object = of_file(source).with("accepted", false);
     match rejection {
         Rejection::NotRead(reason) => object.with_text("not_read", &reason.to_string()),
-        Rejection::Refused { refusal, tag } => {
-            let mut refused = Object::new()
-                .with("number", refusal.number())
-                .with("place", refusal.place);
-            if let Some(tag) = tag {
-                refused = refused.with_text("tag", &Escaped(tag).to_string());
-            }
-            let refused = refused.with_text("meaning", refusal.sentence());
-            object.with("refused", refused.finish())
-        }
+        Rejection::Refused(fault) => object.with("refused", refused(fault).finish()),
     }
     .finish()
+}
+
+/// The refusal, with the top-level chunk and the innermost sub-chunk that its place lies in.
+fn refused(fault: &Fault) -> Object {
+    let refusal = &fault.refusal;
+    let mut object = Object::new()
+        .with("number", refusal.number())
+        .with("place", refusal.place);
+    if let Some(chunk) = fault.holders.first() {
+        object = object
+            .with("chunk", chunk.start)
+            .with_text("tag", &Escaped(&chunk.tag).to_string());
+    }
+    if let [_, .., sub_chunk] = &fault.holders[..] {
+        object = object
+            .with("sub_chunk", sub_chunk.start)
+            .with_text("sub_tag", &Escaped(&sub_chunk.tag).to_string());
+    }
+    object = object.with_text("meaning", refusal.sentence());
+    match &fault.expected {
+        None => object,
+        Some(Expected { found, expected }) => object
+            .with_text("found", found)
+            .with_text("expected", expected),
+    }
 }
 
 /// The line of an accepted file begins with its name and counts.

@@ -45,8 +45,8 @@ fn print_listing(
             write!(out, "{heading}")?;
             print_accepted(reading, out)
         }
-        Err(Rejection::Refused { refusal, .. }) => {
-            let (number, place) = (refusal.number(), refusal.place);
+        Err(Rejection::Refused(fault)) => {
+            let (number, place) = (fault.refusal.number(), fault.refusal.place);
             writeln!(out, "{heading}refused {number} at {place}")
         }
         Err(rejection) => {

@@ -7,6 +7,7 @@ mod check;
 mod chunks;
 mod convert;
 mod destination;
+mod fault;
 mod folders;
 mod help;
 mod identity;

@@ -1,7 +1,7 @@
 /*
  * Uses the library as a C program does: reads the 104 bytes of case l of document
  * 01 in two calls, checks every word, writes the mesh and compares the bytes, and
- * has a file refused. Prints what is wrong and exits with 1, or prints nothing.
+ * has files refused. Prints what is wrong and exits with 1, or prints nothing.
  */
 #include <lwo.h>
 
@@ -220,22 +220,34 @@ static void refuses_to_write(void)
     same("an output after a refusal", out[0], GUARD);
 }
 
-/* The POLS of case l, at 68, names a fourth point. */
-static void refuses_to_read(void)
+/* Case l with one byte changed is refused, and no table is changed. */
+static void refuses(size_t byte, uint8_t value, uint64_t number, uint64_t place)
 {
     uint8_t file[sizeof CASE_L];
     memcpy(file, CASE_L, sizeof file);
-    file[87] = 3;
+    file[byte] = value;
     Tables tables = other_tables();
     Tables before = tables;
     LwoAnswer answer = read_into(&tables, file, sizeof file);
-    same("a vertex number too high", answer.number, LWO_VERTEX_NUMBER);
-    same("its place", answer.place, 68);
+    same("the number of a refusal", answer.number, number);
+    same("its place", answer.place, place);
     same("its needs and counts",
          answer.points + answer.polygons + answer.vertices + answer.names +
              answer.name_bytes + answer.skipped + answer.details,
          0);
     same_tables(&tables, &before);
+}
+
+static void refuses_to_read(void)
+{
+    /* The last vertex, at 86, names a fourth point. */
+    refuses(87, 3, LWO_VERTEX_NUMBER, 86);
+    /* The polygon has a fourth vertex, which would begin where its chunk ends. */
+    refuses(81, 4, LWO_ITEM_CUT, 88);
+    /* The name, at 20, has no zero byte at its end. */
+    refuses(23, 's', LWO_STRING_OPEN, 20);
+    /* The header of PTAG, at 88, has a length past the end of the file. */
+    refuses(95, 9, LWO_CHUNK, 88);
 }
 
 int main(void)

@@ -115,7 +115,7 @@ fn the_example_prints_the_boards_of_a_file() {
     assert_eq!(succeed(&mut of("panel.lwo")), panel);
     let refused = of("damaged.lwo").output().expect("it starts");
     assert_eq!(refused.status.code(), Some(1));
-    assert_eq!(refused.stderr, b"damaged.lwo: refused 9 at 68\n");
+    assert_eq!(refused.stderr, b"damaged.lwo: refused 9 at 86\n");
     assert_eq!(
         of("none.lwo").output().expect("it starts").status.code(),
         Some(1)

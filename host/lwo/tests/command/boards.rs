@@ -23,7 +23,7 @@ fn several_files_have_a_total() {
     let printed = r#"oak.lwo:
   faces  patches  vertices      x mm      y mm   z mm  colour  board
       1        0         3  1000.000  2000.000  0.000    none  "Oak"
-damaged.lwo: refused 9 at 68 (POLS): a polygon names a point that the latest point list does not have
+damaged.lwo: refused 9 at 86 (POLS at 68): a polygon names a point that the latest point list does not have; found point 3, expected 0 to 2 (PNTS at 24)
 panel.lwo:
   faces  patches  vertices      x mm     y mm   z mm             colour  board
       1        0         4  1200.000  600.000  0.000  0.600 0.400 0.200  "Oak"
@@ -86,8 +86,10 @@ fn boards_as_json() {
 \"name_hex\":\"4f616b\",\"colour\":null,\"faces\":1,\"patches\":0,\"vertices\":3,\
 \"size_mm\":[1000.000,2000.000,0.000],\"lowest_mm\":[0.000,0.000,0.000],\
 \"highest_mm\":[1000.000,2000.000,0.000]}],\"no_surface\":null}
-{\"file\":\"damaged.lwo\",\"accepted\":false,\"refused\":{\"number\":9,\"place\":68,\
-\"tag\":\"POLS\",\"meaning\":\"a polygon names a point that the latest point list does not have\"}}
+{\"file\":\"damaged.lwo\",\"accepted\":false,\"refused\":{\"number\":9,\"place\":86,\
+\"chunk\":68,\"tag\":\"POLS\",\
+\"meaning\":\"a polygon names a point that the latest point list does not have\",\
+\"found\":\"point 3\",\"expected\":\"0 to 2 (PNTS at 24)\"}}
 {\"total\":{\"files\":2,\"not_counted\":1,\"boards\":[{\"name\":\"Oak\",\
 \"name_hex\":\"4f616b\",\"colour\":null,\"faces\":1,\"patches\":0,\"vertices\":3,\
 \"size_mm\":null}],\"no_surface\":null}}

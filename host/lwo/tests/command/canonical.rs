@@ -96,8 +96,9 @@ fn the_input_is_known_when_it_is_standard_input_or_output() {
 #[test]
 fn what_is_there_stays_when_the_input_has_no_mesh() {
     let folder = folder_with("keeps", &["damaged.lwo", "oak.lwo"]);
-    let refused = "damaged.lwo: refused 9 at 68 (POLS): \
-        a polygon names a point that the latest point list does not have";
+    let refused = "damaged.lwo: refused 9 at 86 (POLS at 68): \
+        a polygon names a point that the latest point list does not have; \
+        found point 3, expected 0 to 2 (PNTS at 24)";
     let missing = "none.lwo: not read: there is no such file";
     let is_folder = ".: not read: it is a folder";
     for (input, told) in [

@@ -48,11 +48,14 @@ fn a_line_of_json_for_each_file() {
     let printed = "{\"file\":\"chest.lwo\",\"accepted\":true,\"points\":12,\"polygons\":7,\
 \"vertices\":28,\"names\":3,\"name_bytes\":15,\"skipped\":2,\"details\":0,\
 \"skipped_tags\":{\"LAYR\":2}}
-{\"file\":\"damaged.lwo\",\"accepted\":false,\"refused\":{\"number\":9,\"place\":68,\
-\"tag\":\"POLS\",\"meaning\":\"a polygon names a point that the latest point list does not have\"}}
+{\"file\":\"damaged.lwo\",\"accepted\":false,\"refused\":{\"number\":9,\"place\":86,\
+\"chunk\":68,\"tag\":\"POLS\",\
+\"meaning\":\"a polygon names a point that the latest point list does not have\",\
+\"found\":\"point 3\",\"expected\":\"0 to 2 (PNTS at 24)\"}}
 {\"file\":\"no\\\"ne.lwo\",\"accepted\":false,\"not_read\":\"there is no such file\"}
 {\"file\":\"-\",\"accepted\":false,\"refused\":{\"number\":2,\"place\":0,\
-\"meaning\":\"this is not a LightWave object file of the kinds LWOB and LWO2\"}}
+\"meaning\":\"this is not a LightWave object file of the kinds LWOB and LWO2\",\
+\"found\":\"an empty file\",\"expected\":\"12 bytes or more\"}}
 ";
     assert_eq!(run(&samples(), &words), Run::new(1, printed, ""));
 }
@@ -71,10 +74,46 @@ fn a_file_name_that_is_no_text_has_its_bytes_in_json() {
 fn one_refused_file_among_others_is_told() {
     let checked = run(&samples(), &["check", "damaged.lwo", "oak.lwo"]);
     let printed = "\
-damaged.lwo: refused 9 at 68 (POLS): a polygon names a point that the latest point list does not have
+damaged.lwo: refused 9 at 86 (POLS at 68): a polygon names a point that the latest point list does not have; found point 3, expected 0 to 2 (PNTS at 24)
 oak.lwo: accepted, 3 points, 1 polygon, 1 name
 ";
     assert_eq!(checked, Run::new(1, printed, ""));
+}
+
+/// The item at fault is missing: its place is where the next sub-chunk begins, and the chunk is
+/// still the one before.
+#[test]
+fn a_sub_chunk_is_told_with_the_chunk_that_holds_it() {
+    let printed = "\
+saddle.lwo: refused 19 at 218 (DIFF at 208 of SURF at 170): a number or type is cut by the end of \
+its chunk, or missing; found nothing before the end of DIFF, expected an envelope's index of 2 or \
+4 bytes
+";
+    assert_eq!(
+        run(&samples(), &["check", "saddle.lwo"]),
+        Run::new(1, printed, "")
+    );
+    let printed = "{\"file\":\"saddle.lwo\",\"accepted\":false,\"refused\":{\"number\":19,\
+\"place\":218,\"chunk\":170,\"tag\":\"SURF\",\"sub_chunk\":208,\"sub_tag\":\"DIFF\",\
+\"meaning\":\"a number or type is cut by the end of its chunk, or missing\",\
+\"found\":\"nothing before the end of DIFF\",\
+\"expected\":\"an envelope's index of 2 or 4 bytes\"}}
+";
+    assert_eq!(
+        run(&samples(), &["check", "--json", "saddle.lwo"]),
+        Run::new(1, printed, "")
+    );
+}
+
+/// What a file holds cannot end the line, move the cursor or hide a part of it.
+#[test]
+fn what_was_found_stays_on_its_line() {
+    let file = b"FORM\0\0\0\x16LWO2TAGS\0\0\0\x0aOak\0a\n\x1b[2J";
+    let checked = run_with_input(&samples(), &["check", "-"], file);
+    let printed = "standard input: refused 20 at 24 (TAGS at 12): a name or other string has no \
+        zero byte at its end, or not the second one that makes it even; \
+        found \"a\\n\\u{1b}[2J\" up to the end of TAGS, expected a zero byte behind it\n";
+    assert_eq!(Run::from(checked), Run::new(1, printed, ""));
 }
 
 #[test]
@@ -104,7 +143,8 @@ fn standard_input_is_checked() {
 fn an_empty_file_is_no_object() {
     let checked = run(&samples(), &["check", "-"]);
     let printed = "standard input: refused 2 at 0: \
-        this is not a LightWave object file of the kinds LWOB and LWO2\n";
+        this is not a LightWave object file of the kinds LWOB and LWO2; \
+        found an empty file, expected 12 bytes or more\n";
     assert_eq!(checked, Run::new(1, printed, ""));
 }
 

@@ -36,14 +36,14 @@ fn standard_input_is_listed() {
 
 #[test]
 fn a_refused_file_has_one_line() {
-    let refused = Run::new(1, "refused 9 at 68\n", "");
+    let refused = Run::new(1, "refused 9 at 86\n", "");
     assert_eq!(run(&samples(), &["list", "damaged.lwo"]), refused);
 }
 
 #[test]
 fn several_files_are_listed_under_their_names() {
     let listed = run(&samples(), &["list", "oak.lwo", "none.lwo", "damaged.lwo"]);
-    let printed = format!("oak.lwo:\n{CASE_L}damaged.lwo:\nrefused 9 at 68\n");
+    let printed = format!("oak.lwo:\n{CASE_L}damaged.lwo:\nrefused 9 at 86\n");
     let told = "lwo: none.lwo: not read: there is no such file\n";
     assert_eq!(listed, Run::new(1, &printed, told));
 }
@@ -51,7 +51,7 @@ fn several_files_are_listed_under_their_names() {
 #[test]
 fn two_files_are_several() {
     let listed = run(&samples(), &["list", "damaged.lwo", "damaged.lwo"]);
-    let printed = "damaged.lwo:\nrefused 9 at 68\n".repeat(2);
+    let printed = "damaged.lwo:\nrefused 9 at 86\n".repeat(2);
     assert_eq!(listed, Run::new(1, &printed, ""));
 }
 
@@ -84,7 +84,7 @@ fn what_is_told_stands_between_the_listings() {
         .stderr(both)
         .status();
     assert_eq!(status.expect("the command starts").code(), Some(1));
-    let listing = "damaged.lwo:\nrefused 9 at 68\n";
+    let listing = "damaged.lwo:\nrefused 9 at 86\n";
     let told = "lwo: none.lwo: not read: there is no such file\n";
     let written = fs::read_to_string(&path).expect("a text");
     assert_eq!(written, format!("{listing}{told}{listing}"));

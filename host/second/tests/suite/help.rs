@@ -1,5 +1,8 @@
 //! What several tests need.
 
+use cases::mutate::mutated;
+use cases::random::Random;
+use cases::valid::valid;
 use second::{read, rules, Answer, Mesh, Tables};
 
 /// The bytes of a hexadecimal text; blanks and newlines are passed over.
@@ -60,4 +63,11 @@ pub fn accepted(file: &[u8]) -> (Answer, Tables) {
 /// The mesh of an accepted file, by `read`.
 pub fn mesh_of(file: &[u8]) -> Mesh {
     Mesh::from_tables(&accepted(file).1)
+}
+
+/// A valid file with some random changes.
+pub fn mutation(seed: u64) -> Vec<u8> {
+    let mut random = Random::new(seed);
+    let one = valid(&mut random);
+    mutated(&mut random, &one)
 }

@@ -3,6 +3,7 @@
 mod boundary;
 mod help;
 mod mutated;
+mod places;
 mod program;
 mod readings;
 mod room;

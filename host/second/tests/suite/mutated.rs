@@ -3,20 +3,14 @@
 
 use std::collections::BTreeMap;
 
-use cases::mutate::mutated;
 use cases::random::Random;
 use cases::valid::valid;
 use second::{canonical, is_mesh, listing, read, Answer, Tables};
 
-use crate::help::{accepted, filled_room, needs};
+use crate::help::{accepted, filled_room, mutation, needs};
+use crate::places::check_place;
 
 const FILES: u64 = 40_000;
-
-fn mutation(seed: u64) -> Vec<u8> {
-    let mut random = Random::new(seed);
-    let one = valid(&mut random);
-    mutated(&mut random, &one)
-}
 
 #[test]
 fn are_refused_or_read_whole() {
@@ -33,7 +27,7 @@ fn are_refused_or_read_whole() {
         }
     }
     // The mutations must reach most refusals, or they test little.
-    for number in (0..=15).filter(|&number| number != 1) {
+    for number in (0..=15).chain([19, 20]).filter(|&number| number != 1) {
         let seen = numbers.get(&number).copied().unwrap_or(0);
         assert!(seen >= 10, "number {number} came {seen} times");
     }
@@ -69,10 +63,7 @@ fn check_refused(seed: u64, file: &[u8], told: &Answer) {
     assert_eq!(told, &only_told, "seed {seed}");
     let line = format!("refused {} at {}\n", told.number, told.place);
     assert_eq!(listing(file), line, "seed {seed}");
-    assert!(
-        told.place < file.len() as u64 || told.place == 0,
-        "seed {seed}"
-    );
+    check_place(file, &format!("seed {seed}"));
 }
 
 /// Every beginning of a valid file, as it is and with its FORM length put

@@ -66,6 +66,10 @@ fn answers_on_one_line() {
     let output = run("answer", b"FORM\0\0\0\x0eLWOBZZZZ\0\0\0\x01x\0");
     let line = "number 0 place 0 points 0 polygons 0 vertices 0 names 0 name-bytes 0 skipped 1 details 0\n";
     assert_eq!(String::from_utf8_lossy(&output.stdout), line);
+    // A SURF without a name: where it would begin, the file ends.
+    let output = run("answer", b"FORM\0\0\0\x0cLWOBSURF\0\0\0\0");
+    let line = "number 20 place 20 points 0 polygons 0 vertices 0 names 0 name-bytes 0 skipped 0 details 0 fault StringTerminator chunk 12\n";
+    assert_eq!(String::from_utf8_lossy(&output.stdout), line);
 }
 
 #[test]

@@ -1,11 +1,11 @@
 //! The example lines that show how the documents are read, one file a line:
 //! `LEVEL  FILE IN HEX -> answer   (other: the reading not taken)`.
 //!
-//! The lines of level `base` are document 01 as it stands. Those of level
-//! `101` ask for exact places and finer numbers; they are not answered yet,
-//! but a refusal already carries what they ask for, and that is tested.
+//! The lines of level `base` are document 01 without request #101: they have
+//! 6 where an item is cut or a string is open, and the chunk's place. Those of
+//! level `101` have the numbers and places that are told.
 
-use second::{rules, Fault, Mesh, Record};
+use second::{rules, Mesh, Record};
 
 use crate::help::{hex, mesh_of, verdict};
 
@@ -39,11 +39,27 @@ fn differs_in_records_only(example: &Example) -> bool {
     example.other.starts_with("same answer, ")
 }
 
-#[test]
-fn every_base_line() {
+/// What document 01 without request #101 says of a file: 6 where 19 and 20
+/// stand now, and "the offset of the top-level chunk's tag".
+fn verdict_without_101(file: &[u8]) -> String {
+    match rules(file) {
+        Ok(_) => String::from("accepted"),
+        Err(refusal) => {
+            let number = match refusal.number() {
+                19 | 20 => 6,
+                other => other,
+            };
+            format!("refused {number} at {}", refusal.chunk)
+        }
+    }
+}
+
+/// Every line of a level has its answer and not that of the other reading.
+/// Says how many there are.
+fn check_level(level: &str, verdict: fn(&[u8]) -> String) -> usize {
     let mut ran = 0;
     for example in examples() {
-        if example.level != "base" {
+        if example.level != level {
             continue;
         }
         let told = verdict(&example.file);
@@ -53,13 +69,20 @@ fn every_base_line() {
         }
         ran += 1;
     }
-    let listed = LINES
-        .lines()
-        .filter(|line| line.starts_with("base "))
-        .count();
-    assert_ne!(ran, 0);
-    assert_eq!(ran, listed);
-    assert_eq!(ran, 49);
+    let start = format!("{level} ");
+    let listed = LINES.lines().filter(|line| line.starts_with(&start));
+    assert_eq!(ran, listed.count());
+    ran
+}
+
+#[test]
+fn every_base_line() {
+    assert_eq!(check_level("base", verdict_without_101), 49);
+}
+
+#[test]
+fn every_line_of_101() {
+    assert_eq!(check_level("101", verdict), 20);
 }
 
 #[test]
@@ -70,32 +93,6 @@ fn every_line_has_a_known_level() {
     for example in lines {
         assert!(levels.contains(&example.level), "{}", example.level);
     }
-}
-
-/// What the finer number of request #101 would be: an item that is cut gets
-/// 19, a string without terminator or pad gets 20.
-fn finer_number(fault: Fault) -> u64 {
-    match fault {
-        Fault::ItemCut => 19,
-        Fault::StringTerminator | Fault::StringPad => 20,
-        other => other.number(),
-    }
-}
-
-#[test]
-fn exact_places_are_carried_already() {
-    let mut ran = 0;
-    for example in examples() {
-        if example.level != "101" {
-            continue;
-        }
-        let refusal = rules(&example.file).expect_err("a refused file");
-        let (number, place) = (finer_number(refusal.fault), refusal.exact);
-        let told = format!("refused {number} at {place}");
-        assert_eq!(told, example.answer, "line {:02x?}", example.file);
-        ran += 1;
-    }
-    assert_eq!(ran, 20);
 }
 
 fn only_record(mesh: &Mesh) -> Record {

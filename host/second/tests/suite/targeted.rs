@@ -1,5 +1,5 @@
 //! The catalogue of targeted files: each must answer the number and the place
-//! that the catalogue states from document 01.
+//! that the catalogue states from the documents.
 
 use cases::targeted::targeted;
 use second::{listing, read, rules, Answer};
@@ -23,13 +23,14 @@ fn are_refused_as_stated() {
     }
 }
 
-/// The exact place is not told yet, but carried.
+/// The chunk at fault is not told, but carried.
 #[test]
-fn carry_the_exact_place() {
+fn carry_their_chunk() {
     for one in targeted() {
         let refusal = rules(&one.file).expect_err("a refused file");
-        assert_eq!(refusal.exact, one.exact, "{}", one.name);
-        assert_eq!(refusal.chunk, one.place, "{}", one.name);
+        assert_eq!(refusal.number(), one.number, "{}", one.name);
+        assert_eq!(refusal.place(), one.place, "{}", one.name);
+        assert_eq!(refusal.chunk, one.chunk, "{}", one.name);
     }
 }
 

@@ -1,4 +1,5 @@
-//! The worked table of document 01, a to l.
+//! The worked table of document 01, a to l, with what request #101 says of two
+//! rows: "case k stays and case f becomes 19".
 
 use second::canonical;
 use second::items::Cursor;
@@ -59,7 +60,8 @@ fn c_d_e_indices() {
 fn f_a_cut_index() {
     let flaw = over(&[0xff, 0x00]).vx().expect_err("a cut index");
     assert_eq!(flaw.fault, Fault::ItemCut);
-    assert_eq!(flaw.fault.number(), 6);
+    assert_eq!(flaw.fault.number(), 19);
+    assert_eq!(flaw.at, 0);
 }
 
 #[test]
