@@ -38,7 +38,7 @@ pub data StartsAt (kind : Kind) (b : Before) (s : List ℕ) : (why : Fault) (at 
   inside : {why : Fault} {at : ℕ} (c : Got Chunk) → chunkOf 4 0 s ≡ fine c → BodyFaultStarts (judge kind b (c .value .tag)) (c .value .body) why at
       → StartsAt kind b s why at
 
--- a chunk "from its tag to its end": of one that is not well formed only its tag is known
+-- where a chunk's body ends; of a chunk that is not well formed only its tag is known
 abbrev pub endOf : (file : List ℕ) (chunk : ℕ) → ℕ
 endOf file chunk = if wellFormed 4 (drop chunk file) then chunk + 8 + lengthOf 4 (drop chunk file) else chunk
 
@@ -56,7 +56,7 @@ pub record AtFault (file : List ℕ) (number place : ℕ) : Type 1 where
   pub faulty : chunkJudged kind before (drop chunk file) ≡ fault why at
   pub number-is : number ≡ numberOf why
   pub place-is : place ≡ placeOf chunk at
-  -- the place lies within the chunk at fault, or is its end: there an item that is not there at all would start
+  -- the place lies within the chunk at fault, from its tag to its end: at the end an item or string would start that is not there at all
   pub from-tag : chunk ≤ place
   pub to-end : place ≤ endOf file chunk
   pub in-file : endOf file chunk ≤ length file
