@@ -26,7 +26,7 @@ use Rattle.format.proofs.Tiling as tiling
 use Rattle.format.proofs.Facts.{every-at}
 use Rattle.laws.proofs.Chunks.{chunkIn}
 use Rattle.laws.proofs.Readers.{fault-in-chunk}
-use Rattle.demands.specs.Places.{Boundary, first, next, chunkJudged, FineUpTo, StartsAt, endOf}
+use Rattle.demands.specs.Places.{Boundary, first, next, chunkJudged, FineUpTo, StartsAt, endOf, AtFault}
 use Rattle.demands.specs.Places as places
 
 -- ---- one chunk, by its place in the file
@@ -91,28 +91,19 @@ next-chunk-at file place = by (ltb place (length file)) (wellFormed 4 (drop plac
 
 -- ---- the walk over the chunks
 
--- the fault is the first one, of the chunk at a boundary
-pub record FaultAt (kind : Kind) (file : List ℕ) (why : Fault) (place : ℕ) : Type 1 where
+-- a fault of a chunk is the first one, of the chunk at a boundary
+pub record FaultAt (file : List ℕ) (why : Fault) (place : ℕ) : Type 1 where
   pub of-chunk : ofChunk (numberOf why) ≡ true
-  pub chunk : ℕ
-  pub inside : chunk < length file
-  pub before : Before
-  pub earlier : FineUpTo kind file chunk before
-  pub at : ℕ
-  pub faulty : chunkJudged kind before (drop chunk file) ≡ fault why at
-  pub place-is : place ≡ placeOf chunk at
-  pub to-end : place ≤ endOf file chunk
-  pub in-file : endOf file chunk ≤ length file
-  pub starts : StartsAt kind before (drop chunk file) why at
+  pub told : AtFault file (numberOf why) place
 
 -- a file that ends at a boundary
 pub record Ends (file : List ℕ) : Type 1 where
   pub last : Boundary file (length file)
 
 -- and where there is none, the file ends at a boundary
-abbrev pub Walked : {A : Type 0} → (kind : Kind) (file : List ℕ) → Verdict A → Type 1
-Walked kind file (fine parts) = Ends file
-Walked kind file (fault why place) = FaultAt kind file why place
+abbrev pub Walked : {A : Type 0} → (file : List ℕ) → Verdict A → Type 1
+Walked file (fine parts) = Ends file
+Walked file (fault why place) = FaultAt file why place
 
 -- where the walk stands
 record Here (kind : Kind) (file : List ℕ) (place : ℕ) (b : Before) : Type 0 where
@@ -120,55 +111,68 @@ record Here (kind : Kind) (file : List ℕ) (place : ℕ) (b : Before) : Type 0 
   earlier : FineUpTo kind file place b
   most : place ≤ length file
 
-module _ (file : List ℕ) (kind : Kind) where
+module _ (file : List ℕ) (kind : Kind) (of-kind : form file ≡ fine kind) where
+  first-fault : (b : Before) (place : ℕ) (why : Fault) (at : ℕ) → Here kind file place b → place < length file → ofChunk (numberOf why) ≡ true
+      → chunkJudged kind b (drop place file) ≡ fault why at → placeOf place at ≤ endOf file place → endOf file place ≤ length file
+      → StartsAt kind b (drop place file) why at → FaultAt file why (placeOf place at)
+  first-fault b place why at here inside of-chunk faulty to-end in-file starts = record {
+    of-chunk = of-chunk;
+    told = record {
+      kind = kind;
+      of-kind = of-kind;
+      chunk = place;
+      inside = inside;
+      before = b;
+      earlier = here .earlier;
+      why = why;
+      at = at;
+      faulty = faulty;
+      number-is = refl;
+      place-is = refl;
+      from-tag = omega arith;
+      to-end = to-end;
+      in-file = in-file;
+      starts = starts;
+    };
+  }
+
   no-header : (b : Before) (place : ℕ) → Here kind file place b → place < length file → wellFormed 4 (drop place file) ≡ false
-      → FaultAt kind file BadHeader (placeOf place 0)
+      → FaultAt file BadHeader (placeOf place 0)
   unfolding numberOf chunkJudged chunkOf _andThen_
-  no-header b place here inside ok = record { of-chunk = refl; chunk = place; inside = inside; before = b; earlier = here .earlier; at = 0; faulty = rw ok; place-is = refl; to-end = rw ok (omega arith); in-file = rw ok (omega arith); starts = places.StartsAt.header ok }
+  no-header b place here inside ok = first-fault b place BadHeader 0 here inside refl (rw ok) (rw ok (omega arith)) (rw ok (omega arith)) (places.StartsAt.header ok)
 
   walk-chunk : (b : Before) (place : ℕ) (rest : Chunks) → Here kind file place b → place < length file → (ok : wellFormed 4 (drop place file) ≡ true)
       → (w : Whole file place)
-      → ((part : Part) → Here kind file (place + sizeAt file place) (after b part) → Walked kind file (walk kind (after b part) (place + sizeOf 4 (length (w .got .value .body))) rest))
-      → Walked kind file (walk kind b place (chunk (w .got .value .tag) (w .got .value .body) rest))
+      → ((part : Part) → Here kind file (place + sizeAt file place) (after b part) → Walked file (walk kind (after b part) (place + sizeOf 4 (length (w .got .value .body))) rest))
+      → Walked file (walk kind b place (chunk (w .got .value .tag) (w .got .value .body) rest))
   unfolding walk located _andThen_
   walk-chunk b place rest here inside ok w later = by (judge kind b (w .got .value .tag) (w .got .value .body)) refl
     where
-      on : (part : Part) (v : Verdict (List PartAt)) → Walked kind file v → Walked kind file (v andThen λ parts. fine (record { place = place; part = part } ∷ parts))
+      on : (part : Part) (v : Verdict (List PartAt)) → Walked file v → Walked file (v andThen λ parts. fine (record { place = place; part = part } ∷ parts))
       on part (fine parts) x = x
       on part (fault why at) x = x
 
       by : (v : Verdict Part) → judge kind b (w .got .value .tag) (w .got .value .body) ≡ v
-          → Walked kind file (located place v andThen λ part. walk kind (after b part) (place + sizeOf 4 (length (w .got .value .body))) rest andThen λ parts. fine (record { place = place; part = part } ∷ parts))
+          → Walked file (located place v andThen λ part. walk kind (after b part) (place + sizeOf 4 (length (w .got .value .body))) rest andThen λ parts. fine (record { place = place; part = part } ∷ parts))
       by (fine part) e =
           let there : Here kind file (place + sizeAt file place) (after b part) = record { boundary = next (here .boundary) ok; earlier = places.FineUpTo.next (here .earlier) (w .judged kind b ∙ e); most = w .ends } in
           on part (walk kind (after b part) (place + sizeOf 4 (length (w .got .value .body))) rest) (later part there)
       by (fault why at) e =
           let f = fault-in-chunk kind b (w .got .value .tag) (w .got .value .body) e in
-          record {
-            of-chunk = f .of-chunk;
-            chunk = place;
-            inside = inside;
-            before = b;
-            earlier = here .earlier;
-            at = at;
-            faulty = w .judged kind b ∙ e;
-            place-is = refl;
-            to-end = rw ok (omega (arith, f .within, w .long));
-            in-file = rw ok (w .body-ends);
-            starts = places.StartsAt.inside _ (w .by-itself) (f .starts);
-          }
+          first-fault b place why at here inside (f .of-chunk) (w .judged kind b ∙ e) (rw ok (omega (arith, f .within, w .long))) (rw ok (w .body-ends))
+          (places.StartsAt.inside _ (w .by-itself) (f .starts))
 
   walk-here : (b : Before) (place : ℕ) → Here kind file place b → NextChunk file place
       → (place < length file → (ok : wellFormed 4 (drop place file) ≡ true) (part : Part) → Here kind file (place + sizeAt file place) (after b part)
-      → Walked kind file (walk kind (after b part) (place + sizeAt file place) (chunks (drop (place + sizeAt file place) file))))
-      → Walked kind file (walk kind b place (chunks (drop place file)))
+      → Walked file (walk kind (after b part) (place + sizeAt file place) (chunks (drop (place + sizeAt file place) file))))
+      → Walked file (walk kind b place (chunks (drop place file)))
   unfolding walk
   walk-here b place here (end past cs) later = let ends : place ≡ length file = omega (arith, here .most) in rw cs (record { last = subst (Boundary file) ends (here .boundary) })
   walk-here b place here (none inside cs ok) later = rw cs (no-header b place here inside ok)
   walk-here b place here (one inside ok w cs) later =
       rw cs (walk-chunk b place (chunks (drop (place + sizeAt file place) file)) here inside ok w (λ part there. rw (w .size) (later inside ok part there)))
 
-  walked : (n : ℕ) (b : Before) (place : ℕ) → Here kind file place b → length file ≤ place + n → Walked kind file (walk kind b place (chunks (drop place file)))
+  walked : (n : ℕ) (b : Before) (place : ℕ) → Here kind file place b → length file ≤ place + n → Walked file (walk kind b place (chunks (drop place file)))
   walked zero b place here few = walk-here b place here (next-chunk-at file place) (λ inside ok part there. absurd (omega arith))
   walked (suc n) b place here few =
       walk-here b place here (next-chunk-at file place) (λ inside ok part there. walked n (after b part) (place + sizeAt file place) there (omega (arith, whole file place ok .some)))
@@ -188,8 +192,8 @@ headed s kind e =
     ltb-false (length s) 12 (neither (ltb (length s) 12) (not (number (take 4 s) is "FORM")) (known .0) .0)
 
 -- the walk over all chunks starts at the first boundary
-pub walked-file : (file : List ℕ) (kind : Kind) → form file ≡ fine kind → Walked kind file (walk kind start 12 (chunks (drop 12 file)))
-walked-file file kind e = walked file kind (length file) start 12 (record { boundary = first; earlier = places.FineUpTo.first; most = headed file kind e }) (omega arith)
+pub walked-file : (file : List ℕ) (kind : Kind) → form file ≡ fine kind → Walked file (walk kind start 12 (chunks (drop 12 file)))
+walked-file file kind e = walked file kind e (length file) start 12 (record { boundary = first; earlier = places.FineUpTo.first; most = headed file kind e }) (omega arith)
 
 -- the end of a file that the rules give a mesh
 pub last : {file : List ℕ} {m : Mesh} {k d : ℕ} → rules file ≡ gives m k d → Boundary file (length file)
@@ -197,5 +201,5 @@ unfolding walkParts
 last {file} e =
     let a = accepted e in
     let k = fine-with (walk (a .kind) start 12 (chunks (drop 12 file))) partsOf (sym (a .walked)) in
-    let ends : Walked (a .kind) file (fine (k .value)) = rw (k .is) at (walked-file file (a .kind) (a .formed)) in
+    let ends : Walked file (fine (k .value)) = rw (k .is) at (walked-file file (a .kind) (a .formed)) in
     ends .last

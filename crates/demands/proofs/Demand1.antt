@@ -1,12 +1,12 @@
 -- Demand 1: the answer goes by what the rules say of the file, or by the writer's three tests in their order; each case is one of the table's rows.
-use Prim.Native.Nat.{ℕ, _≤_, _<_}
+use Prim.Native.Nat.{ℕ}
 use mathlib.Core.Path.{_≡_, refl, sym, ap, _∙_}
 use mathlib.Core.List.{List}
 use mathlib.Core.Bool.{Bool, true, false, not, true≢false, or-true}
 use native.Mathlib.Omega.{arith}
-use lib.Dec.{leb, ltb, eqb}
+use lib.Dec.{ltb, eqb}
 use lib.ListN.{length}
-use borrow.Author.Tests.{le-leb, ltb-true, ltb-false, lt-ltb, le-ltb}
+use borrow.Author.Tests.{ltb-true, ltb-false}
 use Rattle.format.specs.declared.Kind.{Kind}
 use Rattle.format.specs.declared.Fault.{Fault}
 use Rattle.format.specs.Bytes.{if_then_else_}
@@ -19,11 +19,11 @@ use Rattle.format.specs.Bodies.{Part}
 use Rattle.format.specs.Rules.{Before, judge, Outcome, refused, gives, rules}
 use Rattle.format.specs.Answer.{Answer, answer, fits, over, filled, tablesAfter, Reads}
 use Rattle.format.specs.Written.{isMesh, Written, says, written, outputAfter, Writes}
-use Rattle.format.proofs.Facts.{impossible, between-true}
+use Rattle.format.proofs.Facts.{impossible}
 use Rattle.laws.proofs.OnePlace.{told-in-body}
 use Rattle.demands.specs.Places.{chunkJudged, StartsAt}
 use Rattle.demands.specs.Places.StartsAt.{header, inside}
-use Rattle.demands.specs.Demand1.{Refused, refusal, ReadAnswers, fileOf, TooLong, OutputShort, WriteAnswers, Demand1}
+use Rattle.demands.specs.Demand1.{Refused, ReadAnswers, fileOf, WriteAnswers, Demand1}
 use Rattle.demands.proofs.Refusals.{InOutcome, rules-in}
 
 -- ---- file readers

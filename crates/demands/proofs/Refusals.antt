@@ -1,12 +1,10 @@
 -- A file that the rules refuse: its first twelve bytes are judged by cases, and its chunks by the walk over them.
-use Prim.Native.Nat.{ℕ, _+_, _≤_}
+use Prim.Native.Nat.{ℕ, _+_}
 use mathlib.Core.Path.{_≡_, refl, sym, _∙_}
 use mathlib.Core.List.{List}
-use mathlib.Core.Bool.{Bool, true, false, not, _||_, true≢false, false≢true, or-true}
-use native.Mathlib.Omega.{arith}
+use mathlib.Core.Bool.{Bool, true, false, not, _||_, true≢false, or-true}
 use lib.Dec.{ltb, eqb}
 use lib.ListN.{length, take, drop}
-use borrow.Author.Tests.{le-leb}
 use Rattle.format.specs.declared.Kind.{Kind}
 use Rattle.format.specs.declared.Kind.the-variants.{LWOB, LWO2}
 use Rattle.format.specs.declared.Fault.{Fault}
@@ -16,9 +14,7 @@ use Rattle.format.specs.Limits.{fileLimit}
 use Rattle.format.specs.Refusals.{numberOf, ofChunk, ofReader}
 use Rattle.format.specs.Items.{Verdict, fine, fault, _andThen_}
 use Rattle.format.specs.Chunks.{chunks}
-use Rattle.format.specs.Bodies.{Part}
 use Rattle.format.specs.Rules.{start, PartAt, walk, kindOf, form, judged, Outcome, refused, gives, outcome, rules}
-use Rattle.format.proofs.Facts.{between-true}
 use Rattle.demands.specs.Places.{AtFault}
 use Rattle.demands.proofs.Boundaries.{FaultAt, Walked, walked-file}
 
@@ -60,42 +56,15 @@ form-in s =
 
 -- ---- every file
 
--- the reader's numbers have the chunk's among them
-of-reader : (n : ℕ) → ofChunk n ≡ true → ofReader n ≡ true
-of-reader n e = by (between 4 15 n) (between 19 20 n) refl e
-  where
-    by : (x y : Bool) → between 4 15 n ≡ x → x || y ≡ true → between 1 15 n || y ≡ true
-    by true y q h = let range = between-true 4 15 n q in rw (le-leb 1 n (omega arith), le-leb n 15 (omega arith))
-    by false true q h = or-true (between 1 15 n)
-    by false false q h = absurd (false≢true h)
-
 -- what was judged of a file, where it is a fault
 abbrev InTable : {A : Type 0} → (file : List ℕ) → Verdict A → Type 1
 InTable file (fine x) = Unit {1}
 InTable file (fault why at) = Refusal file (numberOf why) at
 
 module _ (file : List ℕ) where
-  chunk-row : (kind : Kind) → form file ≡ fine kind → (why : Fault) (place : ℕ) → FaultAt kind file why place → Refusal file (numberOf why) place
-  chunk-row kind of-kind why place f =
-      let told : AtFault file (numberOf why) place =
-      record {
-        kind = kind;
-        of-kind = of-kind;
-        chunk = f .chunk;
-        inside = f .inside;
-        before = f .before;
-        earlier = f .earlier;
-        why = why;
-        at = f .at;
-        faulty = f .faulty;
-        number-is = refl;
-        place-is = f .place-is;
-        from-tag = omega (arith, f .place-is);
-        to-end = f .to-end;
-        in-file = f .in-file;
-        starts = f .starts;
-      } in
-      record { of-reader = of-reader (numberOf why) (f .of-chunk); of-chunk = λ e. told; of-file = λ e. absurd (true≢false (sym (f .of-chunk) ∙ e)) }
+  chunk-row : (why : Fault) (place : ℕ) → FaultAt file why place → Refusal file (numberOf why) place
+  chunk-row why place f =
+      record { of-reader = rw (f .of-chunk, or-true (between 1 3 (numberOf why))); of-chunk = λ e. f .told; of-file = λ e. absurd (true≢false (sym (f .of-chunk) ∙ e)) }
 
   file-row : (why : Fault) (at : ℕ) → InFile {A = Kind} (fault why at) → Refusal file (numberOf why) at
   file-row why at w =
@@ -105,9 +74,9 @@ module _ (file : List ℕ) where
   unfolding judged _andThen_
   judged-in = by (form file) (form-in file) refl
     where
-      on : (kind : Kind) → form file ≡ fine kind → (v : Verdict (List PartAt)) → Walked kind file v → InTable {A = Kind × List PartAt} file (v andThen λ parts. fine (kind, parts))
+      on : (kind : Kind) → form file ≡ fine kind → (v : Verdict (List PartAt)) → Walked file v → InTable {A = Kind × List PartAt} file (v andThen λ parts. fine (kind, parts))
       on kind e (fine parts) w = tt
-      on kind e (fault why at) w = chunk-row kind e why at w
+      on kind e (fault why at) w = chunk-row why at w
 
       by : (v : Verdict Kind) → InFile v → form file ≡ v
           → InTable {A = Kind × List PartAt} file (v andThen λ kind. walk kind start 12 (chunks (drop 12 file)) andThen λ parts. fine (kind, parts))

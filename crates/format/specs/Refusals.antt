@@ -29,9 +29,9 @@ numberOf SurfaceValue = 15  -- SIDE neither 1 nor 3, or BLOK empty or with anoth
 abbrev pub ofChunk : ℕ → Bool
 ofChunk number = between 4 15 number || between 19 20 number
 
--- and with those of the whole file, 1, 2 and 3
+-- and those of the file reader: 1, 2 and 3, of the whole file, and a chunk's
 abbrev pub ofReader : ℕ → Bool
-ofReader number = between 1 15 number || between 19 20 number
+ofReader number = between 1 3 number || ofChunk number
 
 -- "NO ROOM: table or output too short", "writer: not a mesh", "writer: canonical file too long"
 abbrev pub noRoom : ℕ

@@ -1,18 +1,15 @@
 -- There is one place where what has a fault starts, and it is the place that the reader tells: each way to come to a fault computes to that fault.
-use Prim.Native.Nat.{ℕ, suc, _+_, _-_, _%_, _^_, _<_}
-use mathlib.Core.Path.{_≡_, refl, sym, ap, _∙_}
-use mathlib.Core.List.{List, [], _∷_, _++_}
-use mathlib.Core.Bool.{Bool, true, false, _&&_}
+use Prim.Native.Nat.{ℕ, _+_}
+use mathlib.Core.Path.{_≡_, refl}
+use mathlib.Core.List.{List}
+use mathlib.Core.Bool.{Bool, true, false}
 use native.Mathlib.Omega.{arith}
-use lib.Dec.{leb, eqb}
 use lib.ListN.{length, take, drop}
 use borrow.Author.Tests.{lt-leb, eq-eqb, ne-eqb}
-use Rattle.format.specs.declared.Container.the-variants.{Blok}
 use Rattle.format.specs.declared.Fault.{Fault}
 use Rattle.format.specs.declared.Fault.the-variants.{StringOpen}
-use Rattle.format.specs.Bytes.{if_then_else_, all}
-use Rattle.format.specs.Items.{Verdict, fine, fault, Got, Reader, _>>=_, _andThen_, give, _or_unless_, whole, upTo, many, item, vx, string, toZero, stringSize}
-use Rattle.format.specs.Chunks.{headerOf, wellFormed, chunkOf, ofLength, sub}
+use Rattle.format.specs.Items.{Verdict, fine, fault, Got, Reader, _>>=_, _andThen_, _or_unless_, whole, upTo, many, item, vx, string, toZero, stringSize}
+use Rattle.format.specs.Chunks.{headerOf, chunkOf, ofLength, sub}
 use Rattle.format.specs.Mesh.{Name}
 use Rattle.format.specs.Surfaces.{blockHeader, block, held}
 use Rattle.format.specs.Bodies.{Part, namesAfter, namesBody}
@@ -20,14 +17,14 @@ use Rattle.format.specs.Rules.{when_read_}
 use Rattle.laws.specs.FaultStarts.{FaultStarts, BodyFaultStarts}
 use Rattle.laws.specs.FaultStarts.FaultStarts.{item-cut, string-open, not-allowed, bad-header, left-over, wrong-length, empty-block, other-first, first, second, asked, index, entry, entries, next-name, names, of-length, in-sub-chunk, in-block, first-sub, later-sub}
 use Rattle.laws.specs.FaultStarts.BodyFaultStarts.{out-of-order, left-over as bytes-over, in-body}
+use Rattle.laws.proofs.Readers.{closed}
 
 -- a string that is not read is open
 open-string : (at : ℕ) (s : List ℕ) → ((g : Got Name) → string at s ≡ fine g → ⊥) → string at s ≡ fault StringOpen at
 unfolding string
-open-string at s none = by (leb (stringSize (toZero s)) (length s) && all (eqb 0) (take (stringSize (toZero s) - toZero s) (drop (toZero s) s))) refl
+open-string at s none = by (closed s) refl
   where
-    by : (t : Bool) → leb (stringSize (toZero s)) (length s) && all (eqb 0) (take (stringSize (toZero s) - toZero s) (drop (toZero s) s)) ≡ t
-        → string at s ≡ fault StringOpen at
+    by : (t : Bool) → closed s ≡ t → string at s ≡ fault StringOpen at
     by true e = absurd (none (record { value = take (toZero s) s; next = at + stringSize (toZero s); left = drop (stringSize (toZero s)) s }) (rw e))
     by false e = rw e
 

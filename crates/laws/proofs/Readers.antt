@@ -209,6 +209,10 @@ signed-narrow n = by (ltb n 32768) refl
     by true e = le-leb n 32768 (omega (arith, ltb-true n 32768 e))
     by false e = le-leb (suc (65535 - n)) 32768 (omega (arith, ltb-false n 32768 e))
 
+-- whether the terminator and the pad of a string are there
+abbrev pub closed : List ℕ → Bool
+closed b = leb (stringSize (toZero b)) (length b) && all (eqb 0) (take (stringSize (toZero b) - toZero b) (drop (toZero b) b))
+
 no-zero : (b : List ℕ) → noZero (take (toZero b) b) ≡ true
 unfolding toZero all
 no-zero [] = refl
@@ -263,9 +267,6 @@ module _ {B : Type 0} {most : ℕ} where
   unfolding string numberOf
   obeys-string = record { each = λ at b i. by at b i (closed b) refl }
     where
-      closed : List ℕ → Bool
-      closed b = leb (stringSize (toZero b)) (length b) && all (eqb 0) (take (stringSize (toZero b) - toZero b) (drop (toZero b) b))
-
       by : (at : ℕ) (b : List ℕ) → Inside B most at b → (t : Bool) → closed b ≡ t
           → Obeyed B most noZero string at b (if t then give (take (toZero b) b) (at + stringSize (toZero b)) (drop (stringSize (toZero b)) b) else fault StringOpen at)
       by at b i true e =

@@ -10,14 +10,14 @@ use lib.ListN.{length}
 use borrow.Author.Tests.{le-leb, leb-true}
 use Rattle.format.specs.declared.Fault.{Fault}
 use Rattle.format.specs.declared.Fault.the-variants.{FileTooLong, NotForm, FormLength, BadHeader, OutOfOrder, WrongLength, ItemCut, StringOpen, NotFinite, VertexCount, VertexNumber, SurfaceNumber, PolygonNumber, PolygonType, BadName, DetailSurface, SurfaceValue}
-use Rattle.format.specs.Bytes.{if_then_else_, between, every}
+use Rattle.format.specs.Bytes.{if_then_else_, every}
 use Rattle.format.specs.Refusals.{numberOf, ofReader, noRoom}
 use Rattle.format.specs.Items.{Verdict, fine, fault}
 use Rattle.format.specs.declared.Kind.{Kind}
 use Rattle.format.specs.Mesh.{Mesh, pointSize, polygonSize, recordSize, Tables, Needs, needs}
 use Rattle.format.specs.Rules.{PartAt, partsOf, Outcome, refused, gives, judged, meshOf, outcome, rules}
 use Rattle.format.specs.Answer.{fits, Answer, answer}
-use Rattle.format.proofs.Facts.{impossible, every-at, between-true}
+use Rattle.format.proofs.Facts.{impossible, every-at}
 use Rattle.laws.specs.Conditions.{Longer}
 
 -- ---- longer tables
