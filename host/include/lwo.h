@@ -43,6 +43,7 @@
  *                 7  reflection
  *                 8  transparency
  *                 9  sides: 1 front only, 3 front and back
+ *               A colour that the file does not give is 1.0, 1.0, 1.0.
  *
  * Where an entry is several words, a table is as long as its whole entries. The
  * words have the byte order of the machine: memcpy a point's word into a float
@@ -214,7 +215,7 @@ LwoAnswer lwo_read(const uint8_t *file, size_t file_length,
  * defined or sides number outside its range; a surface above the name count or
  * 65,536; a name over 255 bytes, with a zero byte, or equal to an earlier one; a
  * float not finite; an undefined record with other than the missing values, by
- * bits (colour 0.5, 0.5, 0.5, diffuse 1.0, the other levels 0.0, sides 1).
+ * bits (colour 1.0, 1.0, 1.0, diffuse 1.0, the other levels 0.0, sides 1).
  */
 LwoWritten lwo_write(const uint32_t *points, size_t points_length,
                      const uint32_t *polygons, size_t polygons_length,

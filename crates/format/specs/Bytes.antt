@@ -66,9 +66,6 @@ unfoldable pub over256 : ℤ → ℕ
 unfolding round toBits
 over256 z = toBits binary32 (round binary32 (negative z) (absolute z) 256)
 
-abbrev pub f32Half : ℕ
-f32Half = 0x3F00_0000
-
 abbrev pub f32One : ℕ
 f32One = 0x3F80_0000
 

@@ -2,7 +2,7 @@
 use Prim.Native.Nat.{ℕ}
 use mathlib.Core.List.{List, [], _∷_, _++_, map}
 use lib.ListN.{length, getD}
-use Rattle.format.specs.Bytes.{joined, sum, f32Half, f32One}
+use Rattle.format.specs.Bytes.{joined, sum, f32One}
 
 -- "three f32 bit patterns each, in file order"
 pub record Point : Type 0 where
@@ -96,14 +96,17 @@ surfaceFrom w = record {
   sides = word 9 w;
 }
 
--- "A name with no SURF has defined 0 and LWO2's missing values." "Missing colour is 0.5, 0.5, 0.5 (house)"; "diffuse 1.0, other levels but colour 0,
--- sides 1".
+-- #105: "The missing colour becomes 1.0, 1.0, 1.0, for SURF chunks without COLR and for names without SURF."
+abbrev pub missingColour : ℕ
+missingColour = f32One
+
+-- "A name with no SURF has defined 0 and LWO2's missing values", which are "diffuse 1.0, other levels but colour 0, sides 1".
 abbrev pub missing : Surface
 missing = record {
   defined = 0;
-  red = f32Half;
-  green = f32Half;
-  blue = f32Half;
+  red = missingColour;
+  green = missingColour;
+  blue = missingColour;
   diffuse = f32One;
   luminosity = 0;
   specular = 0;

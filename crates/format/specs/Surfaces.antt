@@ -13,7 +13,7 @@ use Rattle.format.specs.declared.Fault.the-variants.{SurfaceValue}
 use Rattle.format.specs.Bytes.{if_then_else_, _is_, over255, over256, f32One, empty, joined}
 use Rattle.format.specs.Items.{fault, Reader, _>>=_, give, _or_unless_, many, item, u2, i2, float, vx, string}
 use Rattle.format.specs.Chunks.{headerOf, sub, fixed, unjudged}
-use Rattle.format.specs.Mesh.{Surface, missing}
+use Rattle.format.specs.Mesh.{Surface, missingColour, missing}
 
 -- a listed sub-chunk: its tag and the words that it gives
 pub record Value : Type 0 where
@@ -139,9 +139,9 @@ bit i n = eqb (n / 2 ^ i % 2) 1
 unfoldable pub recordOf : Kind → List Value → Surface
 recordOf LWOB vs = record {
   defined = 1;
-  red = lastOf vs "COLR" 0 (missing .red);
-  green = lastOf vs "COLR" 1 (missing .green);
-  blue = lastOf vs "COLR" 2 (missing .blue);
+  red = lastOf vs "COLR" 0 missingColour;
+  green = lastOf vs "COLR" 1 missingColour;
+  blue = lastOf vs "COLR" 2 missingColour;
   diffuse = lastWord vs "VDIF" (lastWord vs "DIFF" 0);
   luminosity = lastWord vs "VLUM" (lastWord vs "LUMI" (if bit 0 (lastWord vs "FLAG" 0) then f32One else 0));
   specular = lastWord vs "VSPC" (lastWord vs "SPEC" 0);

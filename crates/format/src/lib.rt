@@ -9,6 +9,9 @@ pub const POLYGON_WORDS: usize = 3;
 
 pub const RECORD_WORDS: usize = 10;
 
+// Each level of the colour of a surface that has none of its own.
+pub const MISSING_COLOUR: f32 = 1.0;
+
 // The two kinds of file.
 pub enum Kind {
     LWOB,

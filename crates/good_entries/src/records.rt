@@ -6,19 +6,19 @@ ghost use Rattle.format.specs.Mesh.{recordSize, surfaceFrom, surfaceWords, miss
 ghost use Rattle.format.specs.Written.{goodSurface};
 ghost use Rattle.mesh.specs.Lent.{meshSurfaces};
 use crate::floats::all_finite;
+use format::MISSING_COLOUR;
 use format::RECORD_WORDS;
 use words::same_words;
 
-// The bits of 0.5 and of 1.0.
-const HALF: u32 = 0x3F00_0000;
-
+// The bits of 1.0.
 const ONE: u32 = 0x3F80_0000;
 
-// By bits: not defined, colour 0.5, diffuse 1.0, the other levels 0, sides 1.
+// By bits: not defined, the missing colour, diffuse 1.0, the other levels 0, sides 1.
 fn is_missing(words: &[u32]) -> bool
     ensures { λ r. ⌜ r ≡ same (now (words .entry)) (surfaceWords missing) ⌝ }
 {
-    let missing = [0, HALF, HALF, HALF, ONE, 0, 0, 0, 0, 1];
+    let colour = f32::to_bits(MISSING_COLOUR);
+    let missing = [0, colour, colour, colour, ONE, 0, 0, 0, 0, 1];
     same_words(words, &missing)
 }
 

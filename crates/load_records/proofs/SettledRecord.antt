@@ -13,13 +13,10 @@ use Rattle.surface_levels.specs.Levels.{bits}
 use Rattle.load_values.specs.declared.last_values.Levels.{Levels}
 use Rattle.load_values.specs.declared.last_values.LastValues.{LastValues}
 use Rattle.load_records.specs.declared.record.Record.{Record}
-use Rattle.load_values.specs.LastValues.{noneTaken, taken, noLevels, levelWords, takenOf, LastValuesHaveBits}
+use Rattle.load_values.specs.LastValues.{noneTaken, taken, missingColourFloat, noLevels, levelWords, takenOf, LastValuesHaveBits}
 use Rattle.load_records.specs.Contracts.{RecordIs, sidesIn, settledOf, recordFrom, LevelIs, GlowIs}
 
 -- ---- the start
-
-abbrev half : Float
-half = ofBits binary32 0x3F00_0000
 
 abbrev one : Float
 one = ofBits binary32 0x3F80_0000
@@ -31,9 +28,9 @@ none = ofBits binary32 0
 abbrev missingRecord : Record
 missingRecord = record {
   defined = 0;
-  red = half;
-  green = half;
-  blue = half;
+  red = missingColourFloat;
+  green = missingColourFloat;
+  blue = missingColourFloat;
   diffuse = one;
   luminosity = none;
   specular = none;

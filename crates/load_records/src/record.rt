@@ -8,6 +8,7 @@ ghost use Rattle.surface_levels.specs.Levels.{HasBits, bits};
 ghost use Rattle.load_values.specs.LastValues.{LastLevelsHaveBits, LastValuesHaveBits, levelWords, takenOf};
 ghost use Rattle.load_records.specs.Contracts.{LevelIs, GlowIs, sidesIn, settledOf, recordFrom, RecordIs, MissingIs, RecordAt};
 use format::Kind;
+use format::MISSING_COLOUR;
 use load_values::last_values::Last;
 use load_values::last_values::LastValues;
 use load_values::last_values::Levels;
@@ -96,9 +97,9 @@ impl Record {
     {
         Self {
             defined: 0,
-            red: 0.5,
-            green: 0.5,
-            blue: 0.5,
+            red: MISSING_COLOUR,
+            green: MISSING_COLOUR,
+            blue: MISSING_COLOUR,
             diffuse: 1.0,
             luminosity: 0.0,
             specular: 0.0,

@@ -11,19 +11,15 @@ use Rattle.surface_levels.specs.Contracts.{byShading, wordsOf, ValueHasBits}
 use Rattle.load_values.specs.declared.last_values.Last.{Last}
 use Rattle.load_values.specs.declared.last_values.Levels.{Levels}
 use Rattle.load_values.specs.declared.last_values.LastValues.{LastValues}
-use Rattle.load_values.specs.LastValues.{Taken, taken, noLevels, withLevel, takenOf, LastLevelsHaveBits, LastValuesHaveBits, NoneMet, TakenIn}
+use Rattle.load_values.specs.LastValues.{Taken, taken, missingColourFloat, noLevels, withLevel, takenOf, LastLevelsHaveBits, LastValuesHaveBits, NoneMet, TakenIn}
 
 -- ---- the start
-
--- as the code writes it
-abbrev half : Float
-half = ofBits binary32 0x3F00_0000
 
 pub none-have-bits : LastLevelsHaveBits noLevels
 unfolding ofBits isNan
 none-have-bits = record { luminosity = tt; diffuse = tt; specular = tt; reflection = tt; transparency = tt }
 
-pub none-met : NoneMet (record { red = half; green = half; blue = half; short = noLevels; long = noLevels; flags = 0; sides = 1 })
+pub none-met : NoneMet (record { red = missingColourFloat; green = missingColourFloat; blue = missingColourFloat; short = noLevels; long = noLevels; flags = 0; sides = 1 })
 unfolding toBits ofBits isNan
 none-met = record { is = refl; hasBits = record { red = tt; green = tt; blue = tt; short = none-have-bits; long = none-have-bits } }
 

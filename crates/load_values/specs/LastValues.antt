@@ -8,7 +8,7 @@ use Rattle.format.specs.declared.Kind.{Kind}
 use Rattle.format.specs.declared.Container.the-variants.{Surf}
 use Rattle.format.specs.Bytes.{if_then_else_}
 use Rattle.format.specs.Items.{fine}
-use Rattle.format.specs.Mesh.{missing}
+use Rattle.format.specs.Mesh.{missingColour, missing}
 use Rattle.format.specs.Surfaces.{Value as Words, lastOf, nested, surfaceDepth}
 use Rattle.format.specs.Contracts.{JudgedAt}
 use Rattle.surface_levels.specs.declared.shading.Shading.{Shading}
@@ -69,6 +69,10 @@ taken vs t = record {
 }
 
 -- ---- in code
+
+-- the constant MISSING_COLOUR
+abbrev pub missingColourFloat : Float
+missingColourFloat = ofBits binary32 missingColour
 
 abbrev pub noLast : Last
 noLast = record { met = false; level = ofBits binary32 0 }

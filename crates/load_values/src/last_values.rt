@@ -7,6 +7,7 @@ ghost use Rattle.format.specs.Contracts.{Succeeds};
 ghost use Rattle.surface_levels.specs.Contracts.{ValueHasBits};
 ghost use Rattle.load_values.specs.LastValues.{noLevels, withLevel, LastValuesHaveBits, NoneMet, TakenIn, LastAt};
 use format::Kind;
+use format::MISSING_COLOUR;
 use headers::Header;
 use headers::sub_at;
 use surface_levels::shading::Shading;
@@ -80,9 +81,9 @@ impl LastValues {
         ensures { λ r. ⌜ NoneMet r ⌝ }
     {
         Self {
-            red: 0.5,
-            green: 0.5,
-            blue: 0.5,
+            red: MISSING_COLOUR,
+            green: MISSING_COLOUR,
+            blue: MISSING_COLOUR,
             short: Levels::none(),
             long: Levels::none(),
             flags: 0,

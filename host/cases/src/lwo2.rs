@@ -3,7 +3,7 @@
 use crate::assemble::{chunk, f4, join, string, sub_chunk, u2, vx, vx_long, Kind, Tag};
 use crate::floats::finite;
 use crate::names;
-use crate::plain::PlainRecord;
+use crate::plain::{PlainRecord, MISSING_COLOUR};
 use crate::random::Random;
 use crate::unlisted::{any_body, any_tag, unlisted_sub_chunk};
 use crate::valid::{coordinates, corners, last_body, point_count, word_at, Draft, Valid};
@@ -255,7 +255,7 @@ fn level_four(random: &mut Random) -> Vec<u8> {
 /// 0, sides 1."
 pub fn record(subs: &[Sub]) -> PlainRecord {
     let colour = last_body(subs, b"COLR");
-    let part = |at| colour.map_or(0x3f00_0000, |body| word_at(body, at));
+    let part = |at| colour.map_or(MISSING_COLOUR, |body| word_at(body, at));
     let level = |tag, missing| last_body(subs, tag).map_or(missing, |body| word_at(body, 0));
     let sides = last_body(subs, b"SIDE").map_or(1, |body| u32::from(body[1]));
     [

@@ -263,6 +263,10 @@ fn records_out_of_range(list: &mut List) {
     }
 }
 
+/// 0.5, the level of the missing colour before #105: "a kept table with the old
+/// one is 17".
+const OLD_COLOUR: u32 = 0x3f00_0000;
+
 /// "an undefined record with other than the missing values, by bits". The
 /// second record is undefined.
 fn undefined_with_values(list: &mut List) {
@@ -279,10 +283,13 @@ fn undefined_with_values(list: &mut List) {
         });
     }
     for word in 1..4 {
-        list.add("a colour of 1.0", |mesh| {
-            mesh.records[10 + word] = 0x3f80_0000;
+        list.add("an old colour level", |mesh| {
+            mesh.records[10 + word] = OLD_COLOUR;
         });
     }
+    list.add("the old colour", |mesh| {
+        mesh.records[11..14].fill(OLD_COLOUR);
+    });
     list.add("undefined with sides 3", |mesh| mesh.records[19] = 3);
     list.add("a defined record made undefined", |mesh| {
         mesh.records[0] = 0;

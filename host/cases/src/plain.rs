@@ -16,11 +16,24 @@ pub struct PlainMesh {
 /// luminosity, specular, reflection, transparency, sides.
 pub type PlainRecord = [u32; 10];
 
-const HALF: u32 = 0x3f00_0000;
 const ONE: u32 = 0x3f80_0000;
 
+/// Each level of "the missing colour" (#105), of either kind of file.
+pub const MISSING_COLOUR: u32 = ONE;
+
 /// "A name with no SURF has defined 0 and LWO2's missing values."
-pub const UNDEFINED: PlainRecord = [0, HALF, HALF, HALF, ONE, 0, 0, 0, 0, 1];
+pub const UNDEFINED: PlainRecord = [
+    0,
+    MISSING_COLOUR,
+    MISSING_COLOUR,
+    MISSING_COLOUR,
+    ONE,
+    0,
+    0,
+    0,
+    0,
+    1,
+];
 
 impl PlainMesh {
     pub fn point_count(&self) -> u32 {

@@ -14,6 +14,7 @@ pub fn samples() -> Vec<(&'static str, Vec<u8>)> {
         ("panel.lwo", panel()),
         ("rosette.lwo", rosette()),
         ("saddle.lwo", saddle()),
+        ("shelf.lwo", shelf()),
     ]
 }
 
@@ -216,6 +217,37 @@ fn gold_leaf() -> Vec<u8> {
         sub_chunk(b"COLR", &join(&[points(&[[0.83, 0.69, 0.22]]), vx(0)])),
         sub_chunk(b"SIDE", &u2(3)),
     ])
+}
+
+/// LWO2: two boards without a colour. Pine has a SURF without COLR, beech has no SURF.
+fn shelf() -> Vec<u8> {
+    let corners = [
+        [0.0, 0.0, 0.0],
+        [0.9, 0.0, 0.0],
+        [0.9, 0.0, 0.25],
+        [0.0, 0.0, 0.25],
+        [0.0, 0.3, 0.0],
+        [0.6, 0.3, 0.0],
+        [0.6, 0.3, 0.25],
+        [0.0, 0.3, 0.25],
+    ];
+    let pine = [
+        string(b"Pine"),
+        string(b""),
+        sub_chunk(b"DIFF", &enveloped(0.9)),
+        sub_chunk(b"SIDE", &u2(3)),
+    ];
+    let chunks = [
+        chunk(b"TAGS", &strings(&[b"Pine", b"Beech"])),
+        chunk(b"PNTS", &points(&corners)),
+        chunk(
+            b"POLS",
+            &lwo2_polygons(b"FACE", &[&[0, 1, 2, 3], &[4, 5, 6, 7]]),
+        ),
+        chunk(b"PTAG", &taggings(&[(0, 0), (1, 1)])),
+        chunk(b"SURF", &join(&pine)),
+    ];
+    form(Kind::Lwo2, &join(&chunks))
 }
 
 /// Seen from both sides, with a picture of the grain in a block.

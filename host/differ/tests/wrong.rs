@@ -291,6 +291,78 @@ fn change_name_byte(lent: &mut Lent, answer: &mut Answer) {
     }
 }
 
+/// 1.0 and 0.5, a level of the missing colour now and before #105.
+const MISSING: u32 = 0x3f80_0000;
+const OLD: u32 = 0x3f00_0000;
+
+/// The records of these whose defined word is this and whose colour is the one,
+/// with the other.
+fn recolour(records: &mut [u32], defined: u32, [from, to]: [u32; 2]) {
+    for record in records.chunks_exact_mut(lwo::RECORD_WORDS) {
+        if record[0] == defined && record[1..4] == [from; 3] {
+            record[1..4].fill(to);
+        }
+    }
+}
+
+/// "The missing colour becomes 1.0, 1.0, 1.0, for SURF chunks without COLR and
+/// for names without SURF": readers that have it for the first alone, and for
+/// LWO2 alone.
+#[test]
+fn the_old_colour_in_a_reader() {
+    must_find_reader(
+        |lent, answer| {
+            if answer.number == 0 {
+                let words = RECORD_WORDS * answer.names;
+                let records = &mut lent.records.content_mut()[..words as usize];
+                recolour(records, 0, [MISSING, OLD]);
+            }
+        },
+        "records: element",
+    );
+
+    struct OldInLwob;
+    impl Library for OldInLwob {
+        fn read(&self, file: &Guarded<u8>, lent: &mut Lent) -> Answer {
+            let answer = RIGHT.read(file, lent);
+            if answer.number == 0 && file.content()[8..12] == *b"LWOB" {
+                let words = RECORD_WORDS * answer.names;
+                let records = &mut lent.records.content_mut()[..words as usize];
+                recolour(records, 1, [MISSING, OLD]);
+            }
+            answer
+        }
+
+        fn write(&self, lent: &Lent, out: &mut Guarded<u8>) -> Written {
+            RIGHT.write(lent, out)
+        }
+    }
+    let said = found_in_files(&OldInLwob).expect("the mistake was not found out");
+    assert!(said.contains("records: element"), "{said}");
+}
+
+/// "a kept table with the old one is 17": a writer that takes it for the new
+/// one, and one that takes nothing else.
+#[test]
+fn the_old_colour_in_a_writer() {
+    struct Takes([u32; 2]);
+    impl Library for Takes {
+        fn read(&self, file: &Guarded<u8>, lent: &mut Lent) -> Answer {
+            RIGHT.read(file, lent)
+        }
+
+        fn write(&self, lent: &Lent, out: &mut Guarded<u8>) -> Written {
+            let mut tables = lent.tables();
+            recolour(&mut tables.records, 0, self.0);
+            second::write(&tables, out.content_mut())
+        }
+    }
+    for takes in [Takes([OLD, MISSING]), Takes([MISSING, OLD])] {
+        let said = found_in_meshes(&takes).expect("the mistake was not found out");
+        assert!(said.contains("the answer is"), "{said}");
+    }
+}
+
 /// The word behind the mesh, where a table is longer than it.
 #[test]
 fn a_word_behind_the_mesh() {

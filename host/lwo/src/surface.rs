@@ -44,7 +44,7 @@ pub struct Surface<'a> {
     pub name: Name<'a>,
     /// Whether the file has a SURF for the name; if not, the other values are the missing ones.
     pub defined: bool,
-    /// Red, green and blue.
+    /// Red, green and blue; 1.0 each where the file gives no colour.
     pub colour: [f32; 3],
     /// Diffuse level.
     pub diffuse: f32,
@@ -67,7 +67,7 @@ impl<'a> Surface<'a> {
         Surface {
             name: name.into(),
             defined: true,
-            colour: [0.5; 3],
+            colour: [1.0; 3],
             diffuse: 1.0,
             luminosity: 0.0,
             specular: 0.0,

@@ -60,7 +60,7 @@ fn the_triangle_of_oak() {
     let surface = mesh.surfaces().next().expect("one surface");
     assert_eq!(surface.name.as_bytes(), b"Oak");
     assert!(!surface.defined);
-    assert_eq!((surface.colour, surface.diffuse), ([0.5; 3], 1.0));
+    assert_eq!((surface.colour, surface.diffuse), ([1.0; 3], 1.0));
     assert_eq!(surface.sides, Sides::Front);
     assert_eq!(mesh.to_lwo2(), Ok(sample("oak.lwo")));
 }
@@ -345,6 +345,32 @@ fn what_is_no_mesh_is_not_built() {
 fn the_missing_values_are_the_librarys() {
     let mesh = Mesh::read(&sample("oak.lwo")).expect("it is accepted");
     assert_eq!(mesh.surface(0), Some(Surface::undefined("Oak")));
+}
+
+/// "The missing colour becomes 1.0, 1.0, 1.0, for SURF chunks without COLR and for names without
+/// SURF", of either kind of file: "a" has a SURF, "b" has none.
+#[test]
+fn no_board_is_grey() {
+    let lwob = b"FORM\0\0\0\x1aLWOBSRFS\0\0\0\x04a\0b\0SURF\0\0\0\x02a\0";
+    let lwo2 = b"FORM\0\0\0\x1cLWO2TAGS\0\0\0\x04a\0b\0SURF\0\0\0\x04a\0\0\0";
+    for file in [&lwob[..], lwo2] {
+        let mesh = Mesh::read(file).expect("it is accepted");
+        let seen: Vec<_> = mesh.surfaces().map(|s| (s.defined, s.colour)).collect();
+        assert_eq!(seen, [(true, [1.0; 3]), (false, [1.0; 3])]);
+    }
+    let mesh = Mesh::read(lwo2).expect("it is accepted");
+    assert_eq!(mesh.surface(0), Some(Surface::new("a")));
+}
+
+/// "a kept table with the old one is 17."
+#[test]
+fn an_undefined_surface_of_the_old_colour_is_no_mesh() {
+    let mut old = Surface::undefined("a");
+    old.colour = [0.5; 3];
+    let mut builder = MeshBuilder::new();
+    builder.surface(&old);
+    let refused = builder.build().expect_err("it has a colour of its own");
+    assert_eq!(refused.kind, RefusalKind::NotAMesh);
 }
 
 #[test]

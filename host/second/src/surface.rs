@@ -3,13 +3,13 @@
 /// The words of a record in the lent table.
 pub const RECORD_WORDS: usize = 10;
 
-/// 0.5, 1.0 and 0.0 as bits.
-pub const HALF: u32 = 0x3f00_0000;
+/// 1.0 and 0.0 as bits.
 pub const ONE: u32 = 0x3f80_0000;
 pub const ZERO: u32 = 0;
 
-/// "Missing colour is 0.5, 0.5, 0.5 (house)."
-pub const MISSING_COLOUR: [u32; 3] = [HALF, HALF, HALF];
+/// #105: "The missing colour becomes 1.0, 1.0, 1.0, for SURF chunks without
+/// COLR and for names without SURF."
+pub const MISSING_COLOUR: [u32; 3] = [ONE, ONE, ONE];
 
 /// "One surface record for each name: defined (0 or 1), three colour levels,
 /// diffuse, luminosity, specular, reflection, transparency, and sides (1 or

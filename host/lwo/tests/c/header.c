@@ -123,7 +123,7 @@ static const Tables MESH_L = {
     {0, 1, 2, GUARD},
     {3, GUARD},
     {'O', 'a', 'k', GUARD},
-    {0, 0x3f000000, 0x3f000000, 0x3f000000, 0x3f800000, 0, 0, 0, 0, 1, GUARD},
+    {0, 0x3f800000, 0x3f800000, 0x3f800000, 0x3f800000, 0, 0, 0, 0, 1, GUARD},
 };
 
 /* The second call. */
@@ -206,7 +206,7 @@ static void writes_in_two_calls(void)
     same("the byte past the file", out[sizeof CASE_L], GUARD);
 }
 
-/* A vertex that names no point. */
+/* A vertex that names no point, and a colour where no surface is defined. */
 static void refuses_to_write(void)
 {
     uint8_t out[sizeof CASE_L];
@@ -218,6 +218,13 @@ static void refuses_to_write(void)
     same("their place", written.place, 0);
     same("their length", written.length, 0);
     same("an output after a refusal", out[0], GUARD);
+
+    tables = MESH_L;
+    for (int level = 1; level <= 3; level++)
+        tables.records[level] = 0x3f000000;
+    written = write_from(&tables, out, sizeof out);
+    same("a surface that is not defined, with a colour of 0.5", written.number,
+         LWO_NOT_A_MESH);
 }
 
 /* Case l with one byte changed is refused, and no table is changed. */

@@ -125,19 +125,19 @@ fn the_last_long_form_wins() {
 }
 
 /// In LWOB a SURF without DIFF or VDIF has diffuse 0, a name with no SURF has
-/// diffuse 1.0.
+/// diffuse 1.0. The missing colour is 1.0, 1.0, 1.0 for both.
 #[test]
 fn missing_values_of_lwob() {
     let with_surf = hex("464f524d000000184c574f425352465300000002610053555246000000026100");
     let record = only_record(&mesh_of(&with_surf));
     assert_eq!(record.defined, 1);
     assert_eq!(record.diffuse, 0);
-    assert_eq!(record.colour, [0x3f00_0000; 3]);
+    assert_eq!(record.colour, [0x3f80_0000; 3]);
 
     let without = hex("464f524d0000000e4c574f4253524653000000026100");
     let record = only_record(&mesh_of(&without));
     assert_eq!(record.defined, 0);
     assert_eq!(record.diffuse, 0x3f80_0000);
-    assert_eq!(record.colour, [0x3f00_0000; 3]);
+    assert_eq!(record.colour, [0x3f80_0000; 3]);
     assert_eq!(record.sides, 1);
 }

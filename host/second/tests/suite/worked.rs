@@ -125,14 +125,14 @@ fn l_the_mesh() {
         details: 0,
     };
     assert_eq!(answer, expected);
-    let (zero, half, one, two) = (0, 0x3f00_0000, 0x3f80_0000, 0x4000_0000);
+    let (zero, one, two) = (0, 0x3f80_0000, 0x4000_0000);
     let points = vec![zero, zero, zero, one, zero, zero, zero, two, zero];
     assert_eq!(tables.points, points);
     assert_eq!(tables.polygons, [1, 3, 1]);
     assert_eq!(tables.vertices, [0, 1, 2]);
     assert_eq!(tables.names, [3]);
     assert_eq!(tables.name_bytes, b"Oak");
-    let record = [0, half, half, half, one, zero, zero, zero, zero, 1];
+    let record = [0, one, one, one, one, zero, zero, zero, zero, 1];
     assert_eq!(tables.records, record);
 }
 
