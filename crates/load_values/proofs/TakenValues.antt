@@ -1,7 +1,7 @@
 -- A value that is taken in changes what its tag names and nothing else.
 use mathlib.Core.Path.{_≡_, refl}
 use mathlib.Core.List.{List, [], _++_}
-use lib.Ieee.{Float, binary32, ofBits, toBits, isNan}
+use lib.Ieee.{Float, ofBits, toBits, isNan}
 use Rattle.format.specs.Bytes.{number}
 use Rattle.format.specs.Surfaces.{Value as Words, lastOf}
 use Rattle.surface_levels.specs.declared.shading.Shading.{Shading}
@@ -19,7 +19,19 @@ pub none-have-bits : LastLevelsHaveBits noLevels
 unfolding ofBits isNan
 none-have-bits = record { luminosity = tt; diffuse = tt; specular = tt; reflection = tt; transparency = tt }
 
-pub none-met : NoneMet (record { red = missingColourFloat; green = missingColourFloat; blue = missingColourFloat; short = noLevels; long = noLevels; flags = 0; sides = 1 })
+-- as the code writes it
+abbrev noneMet : LastValues
+noneMet = record {
+  red = missingColourFloat;
+  green = missingColourFloat;
+  blue = missingColourFloat;
+  short = noLevels;
+  long = noLevels;
+  flags = 0;
+  sides = 1;
+}
+
+pub none-met : NoneMet noneMet
 unfolding toBits ofBits isNan
 none-met = record { is = refl; hasBits = record { red = tt; green = tt; blue = tt; short = none-have-bits; long = none-have-bits } }
 
