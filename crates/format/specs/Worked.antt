@@ -12,11 +12,10 @@ use Rattle.format.specs.Bytes.{if_then_else_, absolute, negative, spelt,
 use Rattle.format.specs.Refusals.{numberOf}
 use Rattle.format.specs.Items.{Verdict, fine, fault, Got, _andThen_, _>>=_, _or_unless_, whole, times, upTo, many, item, uint, i2, float, vx, toZero, string}
 use Rattle.format.specs.Chunks.{sizeOf, lengthOf, wellFormed, chunkOf, ofLength, link, split, chunks, sub, unjudged}
-use Rattle.format.specs.Mesh.{Mesh, Tables, polygonOf, FACE, missing, surfaceFrom}
+use Rattle.format.specs.Mesh.{Mesh, polygonOf, FACE, missing}
 use Rattle.format.specs.Surfaces.{lwobValue, lwo2Value, attribute, blockHeader, block, held, nested, lastOf, recordOf}
 use Rattle.format.specs.Bodies.{point, wholePoints, pointsBody, name, namesAfter, namesBody, lwobVertices, detail, details, detailsAfter, face, facesBody, patch, patchesBody, lwo2Vertices, polygon, polygonsBody, pair, taggingBody, surfaceStrings, surfaceBody}
 use Rattle.format.specs.Rules.{Outcome, refused, gives, after, when_read_, judge, located, walk, kindOf, form, judged, added, standing, retag, polygonsIn, meshOf, outcome, rules}
-use Rattle.format.specs.Written.{pieces, entries, polygonsFrom, meshFrom, wholeEntries, goodPolygon, goodNames, goodSurface, goodMesh, isMesh, Written, says, written}
 use Rattle.format.specs.Canonical.{bytes, vxBytes, stringBytes, chunkBytes, polygonBytes, pairsOf, pairBytes, levelBytes, surfaceBytes, ahead, runs, unlessEmpty, runChunks, surfaceChunks, canonicalChunks, formBytes, canonical}
 
 -- bytes, as the table writes them
@@ -35,7 +34,6 @@ hex s = pairs (spelt s)
 data Input : Type 0 where
   file vx-item surface-item lumi-body name-item : List ℕ → Input
   mesh : Mesh → Input
-  tables : Tables → Input
 
 data Result : Type 0 where
   file-gives : Outcome → Result
@@ -44,7 +42,6 @@ data Result : Type 0 where
   surface-gives : (number : ℕ) (details-follow : Bool) → Result
   level-gives : (bits : ℕ) → Result
   written-as : List ℕ → Result
-  writer-says : Written → Result
 
 result : {A : Type 0} → (A → ℕ → Result) → Verdict (Got A) → Result
 result f (fine g) = f (g .value) (g .next)
@@ -57,7 +54,6 @@ run (surface-item s) = result (λ z size. surface-gives (absolute z) (negative z
 run (lumi-body s) = result (λ vs size. level-gives (recordOf LWOB vs .luminosity)) (lwobValue (tagNumber "LUMI") 0 s)
 run (name-item s) = result (λ n size. item-gives (length n) size) (string 0 s)
 run (mesh m) = written-as (canonical m)
-run (tables t) = writer-says (written t 0)
 
 nothing : Mesh
 nothing = record { points = []; polygons = []; names = []; surfaces = [] }
@@ -79,27 +75,9 @@ mesh-l = record {
   surfaces = missing ∷ [];
 }
 
--- a record without values of its own
-plain : (defined colour diffuse : ℕ) → List ℕ
-plain defined colour diffuse = defined ∷ colour ∷ colour ∷ colour ∷ diffuse ∷ 0 ∷ 0 ∷ 0 ∷ 0 ∷ 1 ∷ []
-
--- two names: the first has a SURF, which has no sub-chunk, the second has none
-a-and-b : (diffuse : ℕ) → Mesh
-a-and-b diffuse = record {
-  points = [];
-  polygons = [];
-  names = spelt "a" ∷ spelt "b" ∷ [];
-  surfaces = surfaceFrom (plain 1 0x3f80_0000 diffuse) ∷ surfaceFrom (plain 0 0x3f80_0000 0x3f80_0000) ∷ [];
-}
-
--- tables of one name that is not defined
-kept : (colour : ℕ) → Tables
-kept colour = record { points = []; polygons = []; vertices = []; names = 1 ∷ []; nameBytes = spelt "a"; records = plain 0 colour 0x3f80_0000 }
-
 -- The cases a to l in order, and that the file of l is "Canonical too"; then for #101 what starts at the place that is told: a number that is not there, at the
 -- file's end, an index that is cut, the later of two equal names, a name without its pad, a sub-chunk's header with a bad pad, one with bytes left over, SIDE's
--- value, and the header of a BLOK that begins otherwise; then for #105 the missing colour in an LWOB and an LWO2 file, and what the writer says of a record that
--- is not defined: with 1.0 that it needs room, and "a kept table with the old one is 17".
+-- value, and the header of a BLOK that begins otherwise.
 table : List (Input × Result)
 table =
     (file (hex "464f524d000000044c574f32"), file-gives (gives nothing 0 0))
@@ -123,12 +101,8 @@ table =
     ∷ (file (hex "464f524d0000001e4c574f325355524600000012610000004449464600080000000000000000"), file-gives (refused 6 24))
     ∷ (file (hex "464f524d000000184c574f32535552460000000c610000005349444500020002"), file-gives (refused 15 30))
     ∷ (file (hex "464f524d0000001c4c574f32535552460000001061000000424c4f4b0006544d41500000"), file-gives (refused 15 24))
-    ∷ (file (hex "464f524d0000001a4c574f4253524653000000046100620053555246000000026100"), file-gives (gives (a-and-b 0) 0 0))
-    ∷ (file (hex "464f524d0000001c4c574f32544147530000000461006200535552460000000461000000"), file-gives (gives (a-and-b 0x3f80_0000) 0 0))
-    ∷ (tables (kept 0x3f80_0000), writer-says (says 16 22))
-    ∷ (tables (kept 0x3f00_0000), writer-says (says 17 0))
     ∷ []
 
 worked : map (λ c. run (c .0)) table ≡ map (λ c. c .1) table
-unfolding digit pairs hex result run nothing case-l mesh-l plain a-and-b kept table number finite over255 over256 every all sum joined same amongst numberOf _andThen_ _>>=_ _or_unless_ whole times upTo many item uint i2 float vx toZero string sizeOf lengthOf wellFormed chunkOf ofLength link split chunks sub unjudged lwobValue lwo2Value attribute blockHeader block held nested lastOf recordOf point wholePoints pointsBody name namesAfter namesBody lwobVertices detail details detailsAfter face facesBody patch patchesBody lwo2Vertices polygon polygonsBody pair taggingBody surfaceStrings surfaceBody after when_read_ judge located walk kindOf form judged added standing retag polygonsIn meshOf outcome rules bytes vxBytes stringBytes chunkBytes polygonBytes pairsOf pairBytes levelBytes surfaceBytes ahead runs unlessEmpty runChunks surfaceChunks canonicalChunks formBytes canonical pieces entries polygonsFrom meshFrom wholeEntries goodPolygon goodNames goodSurface goodMesh isMesh written
+unfolding digit pairs hex result run nothing case-l mesh-l table number finite over255 over256 every all sum joined same amongst numberOf _andThen_ _>>=_ _or_unless_ whole times upTo many item uint i2 float vx toZero string sizeOf lengthOf wellFormed chunkOf ofLength link split chunks sub unjudged lwobValue lwo2Value attribute blockHeader block held nested lastOf recordOf point wholePoints pointsBody name namesAfter namesBody lwobVertices detail details detailsAfter face facesBody patch patchesBody lwo2Vertices polygon polygonsBody pair taggingBody surfaceStrings surfaceBody after when_read_ judge located walk kindOf form judged added standing retag polygonsIn meshOf outcome rules bytes vxBytes stringBytes chunkBytes polygonBytes pairsOf pairBytes levelBytes surfaceBytes ahead runs unlessEmpty runChunks surfaceChunks canonicalChunks formBytes canonical
 worked = refl

@@ -3,14 +3,14 @@ use Prim.Native.Nat.{ℕ}
 use mathlib.Core.Path.{_≡_, refl, sym, ap, _∙_}
 use mathlib.Core.List.{List, [], _∷_, _++_, map, append-assoc, append-nil}
 use mathlib.Core.Option.{Option, none, some}
-use mathlib.Core.Bool.{Bool, true, false, not, _||_, false≢true, and-eq-true-iff, or-true}
+use mathlib.Core.Bool.{Bool, true, false, not, _||_, and-eq-true-iff, or-true}
 use native.Mathlib.Omega.{arith}
 use lib.Dec.{leb, eqb}
 use lib.ListN.{length}
 use borrow.Author.Tests.{eqb-true, eq-eqb, not-true}
 use Rattle.format.specs.Bytes.{if_then_else_, finite, all, sum, joined, same, amongst}
 use Rattle.format.specs.Limits.{nameLimit}
-use Rattle.format.specs.Mesh.{Point, pointWords, Polygon, Name, Surface, Mesh, missing, surfaceWords, surfaceFrom}
+use Rattle.format.specs.Mesh.{Point, pointWords, Polygon, Name, Surface, Mesh}
 use Rattle.format.specs.Items.{fine}
 use Rattle.format.specs.declared.Kind.the-variants.{LWO2}
 use Rattle.format.specs.Surfaces.{recordOf}
@@ -19,6 +19,8 @@ use Rattle.format.specs.Rules.{added, pointsOf, namesOf, detailsOf, skippedOf, 
 use Rattle.format.specs.Canonical.{pairsOf, runs}
 use Rattle.format.specs.Written.{goodPolygon, goodNames, goodSurface, goodMesh}
 use Rattle.format.proofs.Facts.{every-at, all-first, all-rest}
+use Rattle.format.proofs.MissingColour.{undefined-missing}
+use Rattle.format.proofs.SameLists.{same-eq}
 use Rattle.laws.proofs.Bodies.{bare, surfaceTags, written, good-name, record-back}
 use Rattle.laws.proofs.Form.{told}
 use Rattle.laws.proofs.Polygons.{polygons-back}
@@ -106,13 +108,6 @@ unfolding same
 same-refl [] = refl
 same-refl (b ∷ x) = rw (eq-eqb b b refl) (same-refl x)
 
-same-eq : (x y : List ℕ) → same x y ≡ true → x ≡ y
-unfolding same
-same-eq [] [] e = refl
-same-eq [] (b ∷ y) e = absurd (false≢true e)
-same-eq (a ∷ x) [] e = absurd (false≢true e)
-same-eq (a ∷ x) (b ∷ y) e = let both = and-eq-true-iff (eqb a b) (same x y) .0 e in rw (eqb-true a b (both .0), same-eq x y (both .1))
-
 amongst-append : (x : Name) (ys zs : List Name) → amongst x (ys ++ zs) ≡ (amongst x ys || amongst x zs)
 unfolding amongst
 amongst-append x [] zs = refl
@@ -178,13 +173,6 @@ skip-first true s rest [] ok = refl
 skip-first true s rest (k ∷ ks) ok =
     rw (standing-first k none s rest false (apart-first (s .name) k ks ok .1), skip-first true s rest ks (all-rest _ k ks ok))
 
--- an undefined surface is the missing one
-undefined : (s : Surface) → goodSurface s ≡ true → eqb (s .defined) 1 ≡ false → missing ≡ s
-unfolding goodSurface
-undefined s ok e =
-    let words : same (surfaceWords s) (surfaceWords missing) ≡ true = rw e at (every-at _ 3 ok) in
-    sym (ap surfaceFrom (same-eq (surfaceWords s) (surfaceWords missing) words))
-
 surfaces-back : (earlier ns : List Name) (ss : List Surface) → goodNames earlier ns ≡ true → all goodSurface ss ≡ true → length ss ≡ length ns
     → map (λ n. recordFor LWO2 (standing n none (definedIn ns ss))) ns ≡ ss
 unfolding definedIn
@@ -204,7 +192,7 @@ surfaces-back earlier (n ∷ ns) (s ∷ ss) names-ok ok long =
         → recordFor LWO2 (standing n none ((if b then written n s ∷ [] else []) ++ definedIn ns ss)) ≡ s
     first true e good others =
         ap (recordFor LWO2) (standing-first n none (written n s) (definedIn ns ss) true (same-refl n) ∙ standing-none n (some (written n s)) ns ss others) ∙ record-back s (eqb-true (s .defined) 1 e)
-    first false e good others = ap (recordFor LWO2) (standing-none n none ns ss others) ∙ undefined s good e
+    first false e good others = ap (recordFor LWO2) (standing-none n none ns ss others) ∙ undefined-missing s good e
 
 -- what `goodMesh` says
 pub record Good (m : Mesh) : Type 0 where

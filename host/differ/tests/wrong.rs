@@ -295,8 +295,7 @@ fn change_name_byte(lent: &mut Lent, answer: &mut Answer) {
 const MISSING: u32 = 0x3f80_0000;
 const OLD: u32 = 0x3f00_0000;
 
-/// The records of these whose defined word is this and whose colour is the one,
-/// with the other.
+/// Where the defined word is this and the colour the one, puts the other.
 fn recolour(records: &mut [u32], defined: u32, [from, to]: [u32; 2]) {
     for record in records.chunks_exact_mut(lwo::RECORD_WORDS) {
         if record[0] == defined && record[1..4] == [from; 3] {
@@ -305,30 +304,28 @@ fn recolour(records: &mut [u32], defined: u32, [from, to]: [u32; 2]) {
     }
 }
 
+/// The old colour in the mesh that was read.
+fn read_old(lent: &mut Lent, answer: &Answer, defined: u32) {
+    if answer.number == 0 {
+        let words = RECORD_WORDS * answer.names;
+        let records = &mut lent.records.content_mut()[..words as usize];
+        recolour(records, defined, [MISSING, OLD]);
+    }
+}
+
 /// "The missing colour becomes 1.0, 1.0, 1.0, for SURF chunks without COLR and
 /// for names without SURF": readers that have it for the first alone, and for
 /// LWO2 alone.
 #[test]
 fn the_old_colour_in_a_reader() {
-    must_find_reader(
-        |lent, answer| {
-            if answer.number == 0 {
-                let words = RECORD_WORDS * answer.names;
-                let records = &mut lent.records.content_mut()[..words as usize];
-                recolour(records, 0, [MISSING, OLD]);
-            }
-        },
-        "records: element",
-    );
+    must_find_reader(|lent, answer| read_old(lent, answer, 0), "records: element");
 
     struct OldInLwob;
     impl Library for OldInLwob {
         fn read(&self, file: &Guarded<u8>, lent: &mut Lent) -> Answer {
             let answer = RIGHT.read(file, lent);
-            if answer.number == 0 && file.content()[8..12] == *b"LWOB" {
-                let words = RECORD_WORDS * answer.names;
-                let records = &mut lent.records.content_mut()[..words as usize];
-                recolour(records, 1, [MISSING, OLD]);
+            if file.content().get(8..12) == Some(b"LWOB") {
+                read_old(lent, &answer, 1);
             }
             answer
         }
