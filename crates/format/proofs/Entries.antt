@@ -1,5 +1,5 @@
--- Loops over entries: a number of times, and as long as the body lasts. Each law is a step of a loop: how it begins, one turn, a fault, the end.
---
+-- Loops over entries: a number of times, and as long as the body lasts. Each law is a step of a loop: how it begins, one turn, a fault, the end. And an entry
+-- that may be missing, at the body's end.
 use mathlib.Core.Path.{_≡_, refl, sym, ap, _∙_}
 use mathlib.Core.List.{List, [], _∷_}
 use Prim.Native.Nat.{ℕ, zero, suc, _+_, _-_, _≤_, _<_}
@@ -8,8 +8,8 @@ use lib.ListN.{length, drop, length-drop, drop-of-length-le}
 use lib.Seq.{drop-cons}
 use Rattle.format.specs.declared.Fault.{Fault}
 use Rattle.format.specs.Items.{Verdict, fine, fault, Got, _andThen_, Reader, _>>=_, give, _followedBy_, times, upTo, many}
-use Rattle.format.specs.Contracts.{keep, Says, got}
-use Rattle.format.proofs.ReaderSteps.{keep-same, keep-keep, met, met-in, stopped}
+use Rattle.format.specs.Contracts.{keep, itself, Says, got}
+use Rattle.format.proofs.ReaderSteps.{keep-same, keep-keep, met, met-in, stopped, exact, exactly, on, off, given}
 
 -- ---- an entry and more
 
@@ -85,6 +85,11 @@ module _ {A : Type 0} (r : Reader A) where
 
 -- ---- as long as the body lasts
 
+-- where bytes are left, an entry begins
+begun : {A : Type 0} (r : Reader A) (s : List ℕ) {at : ℕ} → at < length s → (n : ℕ) → upTo (suc n) r at (drop at s) ≡ (r followedBy upTo n r) at (drop at s)
+unfolding upTo
+begun r s {at} some n = rw (drop-cons s at (length s) some)
+
 -- `fuel` is not held by the code: enough for what is left of the body
 pub record ManyLoop {A B : Type 0} (goal : Verdict (Got B)) (r : Reader A) (s : List ℕ) (at : ℕ) (f : List A → B) : Type 0 where
   pub fuel : ℕ
@@ -115,11 +120,8 @@ module _ {A B : Type 0} {goal : Verdict (Got B)} {r : Reader A} {s : List ℕ} {
 
   module _ (some : at < length s) where
     burnt : (n : ℕ) → length s ≤ at + n → upTo n r at (drop at s) ≡ (r followedBy upTo (n - 1) r) at (drop at s)
-    unfolding upTo
     burnt zero l = absurd (omega arith)
-    burnt (suc n) l =
-        let e : suc n - 1 ≡ n = omega arith in
-        rw (drop-cons s at (length s) some, e)
+    burnt (suc n) l = let e : suc n - 1 ≡ n = omega arith in rw e (begun r s some n)
 
     pub once : upTo (t .fuel) r at (drop at s) ≡ (r followedBy upTo (t .fuel - 1) r) at (drop at s)
     once = burnt (t .fuel) (t .enough)
@@ -135,3 +137,18 @@ module _ {A B : Type 0} {goal : Verdict (Got B)} {r : Reader A} {s : List ℕ} {
 
       pub many-stop : {why : Fault} {p : ℕ} → Says r h s at (fault why p) → fault why p ≡ goal
       many-stop w = sym (t .rest ∙ rw once (halt f (upTo (t .fuel - 1) r) w))
+
+-- ---- one entry, or none
+
+module _ {A : Type 0} (r : Reader A) {s : List ℕ} {at : ℕ} where
+  pub no-entry : length s ≤ at → Says (upTo 1 r) itself s at (got s [] at)
+  unfolding upTo
+  no-entry h = exact (rw (drop-of-length-le s {i = at} h))
+
+  module _ (some : at < length s) where
+    pub one-entry : {x : A} {next : ℕ} → Says r itself s at (got s x next) → Says (upTo 1 r) itself s at (got s (x ∷ []) next)
+    unfolding upTo
+    one-entry w = exact (sym (begun r s some 0 ∙ exactly (on _ w (on _ (given refl) (given refl)))))
+
+    pub entry-stops : {why : Fault} {p : ℕ} → Says r itself s at (fault why p) → Says (upTo 1 r) itself s at (fault why p)
+    entry-stops w = exact (sym (begun r s some 0 ∙ exactly (off _ w)))

@@ -21,3 +21,4 @@ pub mod CanonicalLengths
 pub mod PartByTag
 pub mod OneNameList
 pub mod SizeBound
+pub mod Layers

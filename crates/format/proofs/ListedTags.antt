@@ -11,7 +11,7 @@ use Rattle.format.specs.declared.Kind.the-variants.{LWOB, LWO2}
 use Rattle.format.specs.Bytes.{if_then_else_, _is_, number, all, sum, joined}
 use Rattle.format.specs.Items.{Verdict, fine, fault, _andThen_, _>>=_, _or_unless_, whole, upTo, many, item, uint, string, toZero}
 use Rattle.format.specs.Chunks.{ofLength}
-use Rattle.format.specs.Bodies.{Part, pointList, nameList, polygonList, tagging, surface, skippedChunk, wholePoints, pointsBody, namesAfter, namesBody, facesBody, patchesBody, polygonsBody, taggingBody, surfaceStrings, surfaceBody}
+use Rattle.format.specs.Bodies.{Part, pointList, nameList, polygonList, tagging, surface, layer, skippedChunk, wholePoints, pointsBody, namesAfter, namesBody, layerBody, facesBody, patchesBody, polygonsBody, taggingBody, surfaceStrings, surfaceBody}
 use Rattle.format.specs.Rules.{Before, start, there, count, ListedTag, listedTags, unlistedTag, judgedBy, when_read_, judge}
 use Rattle.format.specs.Contracts.{namesTag}
 use Rattle.format.proofs.Facts.{all-first, all-rest}
@@ -27,6 +27,7 @@ pub record ByTag {ℓ} (P : (List ℕ → Verdict Part) → Type ℓ) (kind : Ki
   pub of-polygons : t is "POLS" ≡ true → P (when there (b .points) read polygonsBody (count (b .points)))
   pub of-tagging : t is "PTAG" ≡ true → P (when there (b .polygons) read taggingBody (count (b .polygons)) (count (b .names)))
   pub of-surface : t is "SURF" ≡ true → P (when true read surfaceBody kind)
+  pub of-layer : t is "LAYR" ≡ true → P (when true read layerBody)
   pub of-skipped : P (λ body. fine skippedChunk)
 
 module _ {ℓ} (P : (List ℕ → Verdict Part) → Type ℓ) where
@@ -41,7 +42,7 @@ module _ {ℓ} (P : (List ℕ → Verdict Part) → Type ℓ) where
       (by-test (t is "SRFS") (c .of-names) (by-test (t is "POLS") (c .of-faces) (by-test (t is "PCHS") (c .of-patches) (by-test (t is "SURF") (c .of-surface) (c .of-skipped)))))
   judge-cases LWO2 b t c =
       by-test (t is "PNTS") (c .of-points _)
-      (by-test (t is "TAGS") (c .of-names) (by-test (t is "POLS") (c .of-polygons) (by-test (t is "PTAG") (c .of-tagging) (by-test (t is "SURF") (c .of-surface) (c .of-skipped)))))
+      (by-test (t is "TAGS") (c .of-names) (by-test (t is "POLS") (c .of-polygons) (by-test (t is "PTAG") (c .of-tagging) (by-test (t is "SURF") (c .of-surface) (by-test (t is "LAYR") (c .of-layer) (c .of-skipped))))))
 
 -- ---- unlisted, so skipped
 
@@ -62,6 +63,7 @@ isSkipped (fine (nameList ns)) = false
 isSkipped (fine (polygonList ps n)) = false
 isSkipped (fine (tagging t ts)) = false
 isSkipped (fine (surface s)) = false
+isSkipped (fine layer) = false
 isSkipped (fine skippedChunk) = true
 isSkipped (fault why at) = false
 
@@ -70,7 +72,7 @@ abbrev keeps : ListedTag → Bool
 keeps l = not (isSkipped ((when l .inOrder start read l .body start) []))
 
 each-keeps : (kind : Kind) → all keeps (listedTags kind) ≡ true
-unfolding number all sum joined when_read_ whole upTo many item uint string toZero _andThen_ _>>=_ _or_unless_ ofLength wholePoints pointsBody namesAfter namesBody surfaceStrings surfaceBody
+unfolding number all sum joined when_read_ whole upTo many item uint string toZero _andThen_ _>>=_ _or_unless_ ofLength wholePoints pointsBody namesAfter namesBody layerBody surfaceStrings surfaceBody
 each-keeps LWOB = refl
 each-keeps LWO2 = refl
 

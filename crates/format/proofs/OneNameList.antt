@@ -24,9 +24,10 @@ first-names kind b t body ns j =
     (record {
       of-points = λ e ps ms i. impossible cc;
       of-names = λ e missing ns ms i. missing;
-      of-polygons = λ ps n ms i. impossible cc;
-      of-tagging = λ type ts ms i. impossible cc;
+      of-polygons = λ ok ps n ms i. impossible cc;
+      of-tagging = λ ok type ts ms i. impossible cc;
       of-surface = λ e s ms i. impossible cc;
+      of-layer = λ ms i. impossible cc;
       of-skipped = λ ms i. impossible cc;
     })
     .each body (nameList ns) j ns refl
@@ -40,9 +41,10 @@ stays kind b n t body part there j =
     (record {
       of-points = λ e ps. (refl, there);
       of-names = λ e missing ns. impossible (cc (sym missing ∙ there));
-      of-polygons = λ ps k. (refl, there);
-      of-tagging = λ type ts. (refl, there);
+      of-polygons = λ ok ps k. (refl, there);
+      of-tagging = λ ok type ts. (refl, there);
       of-surface = λ e s. (refl, there);
+      of-layer = (refl, there);
       of-skipped = (refl, there);
     })
     .each body part j

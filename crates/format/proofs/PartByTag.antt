@@ -1,7 +1,7 @@
 -- Which part a chunk is that was judged fine, by its tag: each body ends by giving one sort of part, and each tag has one body.
 use mathlib.Core.Path.{_≡_, refl, ap, subst}
 use mathlib.Core.List.{List}
-use mathlib.Core.Bool.{Bool, true, false, not}
+use mathlib.Core.Bool.{Bool, true, false, not, and-eq-true-iff}
 use mathlib.Core.Option.{Option, none, some}
 use Prim.Native.Nat.{ℕ}
 use lib.ListN.{length}
@@ -13,7 +13,7 @@ use Rattle.format.specs.Bytes.{if_then_else_, _is_, number, empty}
 use Rattle.format.specs.Items.{Verdict, fine, fault, Got, Reader, _>>=_, _andThen_, give, whole}
 use Rattle.format.specs.Chunks.{headerOf, ofLength}
 use Rattle.format.specs.Mesh.{Point, Polygon, Name}
-use Rattle.format.specs.Bodies.{Part, SurfaceChunk, pointList, nameList, polygonList, tagging, surface, skippedChunk, pointsBody, namesBody, facesBody, patchesBody, polygonsBody, taggingBody, surfaceBody}
+use Rattle.format.specs.Bodies.{Part, SurfaceChunk, pointList, nameList, polygonList, tagging, surface, layer, skippedChunk, pointsBody, namesBody, layerBody, facesBody, patchesBody, polygonsBody, taggingBody, surfaceBody}
 use Rattle.format.specs.Rules.{Before, there, count, when_read_, judge}
 use Rattle.format.specs.Contracts.{namesTag}
 use Rattle.format.proofs.Facts.{impossible}
@@ -68,6 +68,10 @@ module _ (P : Part → Type 0) where
   unfolding surfaceBody
   makes-surface kind p = makes-then _ _ _ (λ called. makes-then _ _ _ (λ vs. makes-give _ _ (p _)))
 
+  pub makes-layer : P layer → Makes P layerBody
+  unfolding layerBody
+  makes-layer p = makes-then _ _ _ (λ number. makes-then _ _ _ (λ flags. makes-then _ _ _ (λ pivot. makes-then _ _ _ (λ called. makes-then _ _ _ (λ parent. makes-give _ _ p)))))
+
   module _ (p : (ps : List Polygon) (n : ℕ) → P (polygonList ps n)) (pointCount nameCount : ℕ) where
     pub makes-faces : Makes P (facesBody pointCount nameCount)
     unfolding facesBody
@@ -94,9 +98,10 @@ pub record Always (P : Part → Type 0) (judging : List ℕ → Verdict Part) : 
 pub record Allowed (P : Part → Type 0) (kind : Kind) (b : Before) (t : ℕ) : Type 0 where
   pub of-points : t is "PNTS" ≡ true → (ps : List Point) → P (pointList ps)
   pub of-names : namesTag kind t ≡ true → b .names ≡ none → (ns : List Name) → P (nameList ns)
-  pub of-polygons : (ps : List Polygon) (n : ℕ) → P (polygonList ps n)
-  pub of-tagging : (type : ℕ) (ts : List (ℕ × ℕ)) → P (tagging type ts)
+  pub of-polygons : there (b .points) ≡ true → (ps : List Polygon) (n : ℕ) → P (polygonList ps n)
+  pub of-tagging : there (b .polygons) ≡ true → (type : ℕ) (ts : List (ℕ × ℕ)) → P (tagging type ts)
   pub of-surface : t is "SURF" ≡ true → (s : SurfaceChunk) → P (surface s)
+  pub of-layer : P layer
   pub of-skipped : P skippedChunk
 
 not-there : (o : Option ℕ) → not (there o) ≡ true → o ≡ none
@@ -121,11 +126,12 @@ module _ (P : Part → Type 0) where
       (record {
         of-points = λ ok e. always-when _ (λ ok. makes-points P kind (a .of-points e));
         of-names = λ e. always-when _ (λ first. makes-names P (a .of-names e (not-there (b .names) first)));
-        of-faces = λ e. always-when _ (λ ok. makes-faces P (a .of-polygons) _ _);
-        of-patches = λ e. always-when _ (λ ok. makes-patches P (a .of-polygons) _ _);
-        of-polygons = λ e. always-when _ (λ ok. makes-polygons P (a .of-polygons) _);
-        of-tagging = λ e. always-when _ (λ ok. makes-tagging P (a .of-tagging) _ _);
+        of-faces = λ e. always-when _ (λ ok. makes-faces P (a .of-polygons (and-eq-true-iff _ _ .0 ok .0)) _ _);
+        of-patches = λ e. always-when _ (λ ok. makes-patches P (a .of-polygons (and-eq-true-iff _ _ .0 ok .0)) _ _);
+        of-polygons = λ e. always-when _ (λ ok. makes-polygons P (a .of-polygons ok) _);
+        of-tagging = λ e. always-when _ (λ ok. makes-tagging P (a .of-tagging ok) _ _);
         of-surface = λ e. always-when _ (λ ok. makes-surface P kind (a .of-surface e));
+        of-layer = λ e. always-when _ (λ ok. makes-layer P (a .of-layer));
         of-skipped = always-skipped (a .of-skipped);
       })
 
@@ -185,6 +191,10 @@ module _ {t : ℕ} where
   pub holds-tagging : t is "PTAG" ≡ true → Holds taggingFrom (λ b. taggingBody (count (b .polygons)) (count (b .names))) LWO2 t
   unfolding judge number
   holds-tagging e = record { each = λ b body part j. made taggingFrom _ (makes-tagging _ (λ type ts. ((type, ts), refl)) _ _) body (rw (eqb-true t _ e) at j) }
+
+  pub holds-layer : t is "LAYR" ≡ true → Holds {A = Unit {0}} (λ u. layer) (λ b. layerBody) LWO2 t
+  unfolding judge number
+  holds-layer e = record { each = λ b body part j. made (λ u. layer) _ (makes-layer _ (tt, refl)) body (rw (eqb-true t _ e) at j) }
 
   pub holds-surface : (kind : Kind) → t is "SURF" ≡ true → Holds surface (λ b. surfaceBody kind) kind t
   unfolding judge number

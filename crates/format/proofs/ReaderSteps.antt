@@ -95,6 +95,12 @@ module _ {A B C : Type 0} {r : Reader A} (k : A → Reader B) {h : B → C} {s :
     unfolding _andThen_ _>>=_
     off w = record { is = rw (stopped w) }
 
+-- what is made of what was read
+pub made-of : {A B C : Type 0} {r : Reader A} (k : A → B) {h : B → C} {s : List ℕ} {at : ℕ} {answer : Verdict (Got C)} → Says r (λ a. h (k a)) s at answer
+    → Says (r >>= λ a. give (k a)) h s at answer
+unfolding _>>=_
+made-of {r} k {h} {s} {at} w = record { is = w .is ∙ sym (keep-keep h k (r at (drop at s))) }
+
 pub given : {A B : Type 0} {h : A → B} {x : A} {y : B} {s : List ℕ} {at : ℕ} → h x ≡ y → Says (give x) h s at (got s y at)
 unfolding _andThen_
 given e = record { is = rw e }
@@ -179,6 +185,12 @@ unfolding unjudged _andThen_
 not-judged a {s} {at} h =
     let end : at + (length s - at) ≡ length s = omega arith in
     record { is = rw (length-drop at s, end, drop-length s) }
+
+-- whatever stands from a place on, beyond the end too
+pub rest-unjudged : {A B C : Type 0} {header : ℕ} (a : A) (k : A → B) (h : B → C) {s : List ℕ} {at : ℕ}
+    → JudgedAt header at (unjudged a >>= (λ x. give (k x))) h s (fine (h (k a)))
+unfolding unjudged whole _>>=_ _andThen_
+rest-unjudged a k h = record { is = refl }
 
 -- ---- a whole body, item by item
 

@@ -16,7 +16,7 @@ use Rattle.format.specs.Bytes.{if_then_else_, _is_, all, sum, negative}
 use Rattle.format.specs.Items.{Verdict, fine, fault, Got, Reader, _>>=_, _andThen_, give, _or_unless_, _followedBy_, times, upTo, many, item, uint, i2, float, vx, long, string, toZero, stringSize}
 use Rattle.format.specs.Chunks.{headerOf, ofLength, Chunk, chunkOf, Chunks, finished, broken, chunk, link, split, chunks}
 use Rattle.format.specs.Mesh.{Name, Polygon}
-use Rattle.format.specs.Bodies.{Part, pointList, nameList, polygonList, tagging, surface, skippedChunk, point, pointsBody, name, namesAfter, namesBody, lwobVertices, detail, details, detailsAfter, face, facesBody, patch, patchesBody, lwo2Vertices, polygon, polygonsBody}
+use Rattle.format.specs.Bodies.{Part, pointList, nameList, polygonList, tagging, surface, layer, skippedChunk, point, pointsBody, name, namesAfter, namesBody, lwobVertices, detail, details, detailsAfter, face, facesBody, patch, patchesBody, lwo2Vertices, polygon, polygonsBody}
 use Rattle.format.specs.Rules.{Before, after, when_read_, judge}
 use Rattle.format.specs.Contracts.{walkParts}
 use Rattle.format.proofs.Facts.{impossible}
@@ -25,7 +25,7 @@ use Rattle.format.proofs.Inversion.{sound-whole}
 use Rattle.format.proofs.Verdicts.{same-fine}
 use Rattle.format.proofs.ChunkWalk.{parts-finished, parts-broken, next}
 use Rattle.format.proofs.Tiling.{framed}
-use Rattle.format.proofs.PartByTag.{Makes, makes-tagging, makes-surface}
+use Rattle.format.proofs.PartByTag.{Makes, makes-tagging, makes-surface, makes-layer}
 
 -- How many points, names and their bytes, polygons and their vertices and details, or skipped chunks a part adds.
 unfoldable pub things : Part → ℕ
@@ -34,6 +34,7 @@ things (nameList ns) = length ns + sum (map length ns)
 things (polygonList ps n) = length ps + sum (map (λ p. length (p .vertices)) ps) + n
 things (tagging t ts) = 0
 things (surface s) = 0
+things layer = 0
 things skippedChunk = 1
 
 -- ---- readers
@@ -269,6 +270,7 @@ chunk-bound kind b t =
       of-polygons = λ e. bound-uses _ _ (uses-polygons _ 0);
       of-tagging = λ e. bound-nothing _ _ (makes-tagging _ (λ type ts. refl) _ _);
       of-surface = λ e. bound-nothing _ _ (makes-surface _ kind (λ s. refl));
+      of-layer = λ e. bound-nothing _ _ (makes-layer _ refl);
       of-skipped = bound-skipped;
     })
 

@@ -11,7 +11,7 @@ use Rattle.format.specs.declared.Container.the-variants.{Surf}
 use Rattle.format.specs.declared.Fault.the-variants.{VertexCount, VertexNumber, SurfaceNumber, PolygonNumber, PolygonType, BadName, DetailSurface}
 use Rattle.format.specs.Bytes.{if_then_else_, _is_, between, absolute, negative, sum, amongst}
 use Rattle.format.specs.Limits.{nameLimit, lwobVertexLimit, lwobPointLimit}
-use Rattle.format.specs.Items.{Reader, _>>=_, give, _or_unless_, times, many, u2, u4, i2, float, vx, string}
+use Rattle.format.specs.Items.{Reader, _>>=_, give, _or_unless_, times, upTo, many, u2, u4, i2, float, vx, string}
 use Rattle.format.specs.Chunks.{ofLength, unjudged}
 use Rattle.format.specs.Mesh.{Point, Polygon, polygonOf, FACE, PATCH, Name}
 use Rattle.format.specs.Surfaces.{Value, nested, surfaceDepth}
@@ -23,13 +23,14 @@ pub record SurfaceChunk : Type 0 where
   pub values : List Value
 
 -- What a chunk contributes. Vertices count from the first of the latest points. A tagging has the type of its PTAG, and pairs of a polygon, counted from the
--- first of the latest POLS, and a number.
+-- first of the latest POLS, and a number. Of a layer nothing is kept.
 pub data Part : Type 0 where
   pointList : List Point → Part
   nameList : List Name → Part
   polygonList : List Polygon → (details : ℕ) → Part
   tagging : (type : ℕ) → List (ℕ × ℕ) → Part
   surface : SurfaceChunk → Part
+  layer : Part
   skippedChunk : Part
 
 -- ---- points and names
@@ -59,6 +60,13 @@ namesAfter (suc most) earlier at (b ∷ s) = (do n ← name earlier; ns ← name
 
 unfoldable pub namesBody : Reader Part
 namesBody at s = (do ns ← namesAfter (length s) []; give (nameList ns)) at s
+
+-- ---- layers
+
+-- LAYR: "number U2, flags U2, pivot of three finite floats (7), name, and a parent U2 or nothing after it (a single byte is 19)". "The mesh doesn't keep the
+-- layer."
+unfoldable pub layerBody : Reader Part
+layerBody = do number ← u2; flags ← u2; pivot ← point; called ← string; parent ← upTo 1 u2; give layer
 
 -- ---- polygons
 

@@ -13,7 +13,7 @@ use Rattle.format.specs.Bytes.{tagNumber, sum, joined}
 use Rattle.format.specs.Items.{Verdict, fine, fault, _andThen_, Got, Reader, _>>=_, give, many, whole}
 use Rattle.format.specs.Chunks.{Chunks, chunks}
 use Rattle.format.specs.Mesh.{Polygon, polygonWords, Name}
-use Rattle.format.specs.Bodies.{Part, pointList, nameList, polygonList, tagging, surface, skippedChunk, pair}
+use Rattle.format.specs.Bodies.{Part, pointList, nameList, polygonList, tagging, surface, layer, skippedChunk, pair}
 use Rattle.format.specs.Rules.{Before, start, walk, partsOf, namesOf}
 
 -- ---- readers
@@ -81,6 +81,7 @@ polygonsListed (nameList ns) = []
 polygonsListed (polygonList ps n) = ps
 polygonsListed (tagging t ts) = []
 polygonsListed (surface s) = []
+polygonsListed layer = []
 polygonsListed skippedChunk = []
 
 -- a verdict that is fine

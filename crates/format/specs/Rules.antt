@@ -16,7 +16,7 @@ use Rattle.format.specs.Items.{Verdict, fine, fault, _andThen_ as _>>=_,
 use Rattle.format.specs.Chunks.{Chunks, finished, broken, chunk, chunks, sizeOf}
 use Rattle.format.specs.Mesh.{Point, Polygon, polygonOf, Name, Surface, Mesh, missing}
 use Rattle.format.specs.Surfaces.{recordOf}
-use Rattle.format.specs.Bodies.{Part, SurfaceChunk, pointList, nameList, polygonList, tagging, surface, skippedChunk, pointsBody, namesBody, facesBody, patchesBody, polygonsBody, taggingBody, surfaceBody}
+use Rattle.format.specs.Bodies.{Part, SurfaceChunk, pointList, nameList, polygonList, tagging, surface, layer, skippedChunk, pointsBody, namesBody, layerBody, facesBody, patchesBody, polygonsBody, taggingBody, surfaceBody}
 
 -- ---- one chunk
 
@@ -29,12 +29,14 @@ pub record Before : Type 0 where
 abbrev pub start : Before
 start = record { points = none; polygons = none; names = none }
 
+-- LAYR: "It empties the latest point and polygon lists"
 unfoldable pub after : Before → Part → Before
 after b (pointList ps) = record { points = some (length ps); polygons = b .polygons; names = b .names }
 after b (nameList ns) = record { points = b .points; polygons = b .polygons; names = some (length ns) }
 after b (polygonList ps n) = record { points = b .points; polygons = some (length ps); names = b .names }
 after b (tagging t ts) = b
 after b (surface s) = b
+after b layer = record { points = none; polygons = none; names = b .names }
 after b skippedChunk = b
 
 abbrev pub there : Option ℕ → Bool
@@ -62,7 +64,7 @@ tag if inOrder read body = record { tag = tag; inOrder = inOrder; body = body }
 
 -- "A tag is listed only where it is named below, by kind of file and level." At the top level these are, with what 5 asks of each. LWOB: "Each at most
 -- once (5, house)"; "both PNTS and SRFS must come earlier". LWO2: "PNTS: a new latest point list each time"; "at most once (house)"; "POLS needs an earlier
--- PNTS"; "needs an earlier POLS (5)".
+-- PNTS"; "needs an earlier POLS (5)"; "List LAYR for LWO2"; "POLS with no PNTS since it, or PTAG with no POLS since it, is 5."
 abbrev pub listedTags : Kind → List ListedTag
 listedTags LWOB =
     ("PNTS" if (λ b. not (there (b .points))) read (λ b. pointsBody LWOB))
@@ -77,6 +79,7 @@ listedTags LWO2 =
     ∷ ("POLS" if (λ b. there (b .points)) read (λ b. polygonsBody (count (b .points))))
     ∷ ("PTAG" if (λ b. there (b .polygons)) read (λ b. taggingBody (count (b .polygons)) (count (b .names))))
     ∷ ("SURF" if (λ b. true) read (λ b. surfaceBody LWO2))
+    ∷ ("LAYR" if (λ b. true) read (λ b. layerBody))
     ∷ []
 
 abbrev pub unlistedTag : Kind → (tag : ℕ) → Bool
@@ -149,6 +152,7 @@ added (nameList ns) = record { points = []; names = ns; surfaces = []; skipped =
 added (polygonList ps n) = record { points = []; names = []; surfaces = []; skipped = 0; details = n }
 added (tagging t ts) = nothingAdded
 added (surface s) = record { points = []; names = []; surfaces = s ∷ []; skipped = 0; details = 0 }
+added layer = nothingAdded
 added skippedChunk = record { points = []; names = []; surfaces = []; skipped = 1; details = 0 }
 
 abbrev pub pointsOf : Part → List Point
@@ -194,7 +198,8 @@ retag type (suc i) n (p ∷ ps) = p ∷ retag type i n ps
 abbrev pub tagged : List Polygon → (type : ℕ) → List (ℕ × ℕ) → List Polygon
 tagged ps type ts = foldl (λ now t. retag type (t .0) (t .1) now) ps ts
 
--- The latest point list starts after `base` points and ends at `end`. The polygons of the latest POLS are held back for the PTAGs after it.
+-- The latest point list starts after `base` points and ends at `end`. The polygons of the latest POLS are held back for the PTAGs after it. Of a new layer both
+-- lists are empty, and its points come after all points of the file so far.
 unfoldable pub polygonsIn : (base end : ℕ) (latest : List Polygon) → List Part → List Polygon
 polygonsIn base end latest [] = latest
 polygonsIn base end latest (pointList ps ∷ rest) = polygonsIn end (end + length ps) latest rest
@@ -202,6 +207,7 @@ polygonsIn base end latest (nameList ns ∷ rest) = polygonsIn base end latest r
 polygonsIn base end latest (polygonList ps n ∷ rest) = latest ++ polygonsIn base end (map (from base) ps) rest
 polygonsIn base end latest (tagging t ts ∷ rest) = polygonsIn base end (tagged latest t ts) rest
 polygonsIn base end latest (surface s ∷ rest) = polygonsIn base end latest rest
+polygonsIn base end latest (layer ∷ rest) = latest ++ polygonsIn end end [] rest
 polygonsIn base end latest (skippedChunk ∷ rest) = polygonsIn base end latest rest
 
 unfoldable pub meshOf : Kind → List Part → Mesh

@@ -22,6 +22,8 @@ pub const PTAG: u32 = 0x5054_4147;
 
 pub const SURF: u32 = 0x5355_5246;
 
+pub const LAYR: u32 = 0x4C41_5952;
+
 // Types of a POLS. A PTAG of surfaces has the type SURF.
 pub const FACE: u32 = 0x4641_4345;
 

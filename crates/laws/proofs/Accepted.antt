@@ -18,7 +18,7 @@ use Rattle.format.specs.Items.{Verdict, fine, fault, Got, _andThen_}
 use Rattle.format.specs.Chunks.{Chunk, sizeOf, lengthOf, wellFormed, chunkOf, Chunks, finished, broken, chunk, link, split, chunks}
 use Rattle.format.specs.Mesh.{Point, pointWords, Polygon, polygonOf, FACE, PATCH, Name, Surface, missing, levels, surfaceWords, Mesh}
 use Rattle.format.specs.Surfaces.{Value, sideNumber, levelTag, floatLevel, lastOf, bit, recordOf}
-use Rattle.format.specs.Bodies.{Part, SurfaceChunk, pointList, nameList, polygonList, tagging, surface, skippedChunk}
+use Rattle.format.specs.Bodies.{Part, SurfaceChunk, pointList, nameList, polygonList, tagging, surface, layer, skippedChunk}
 use Rattle.format.specs.Rules.{added, Before, start, after, there, count, pointsOf, namesOf, surfacesOf, standing, recordFor, from, withTag, retag, tagged, polygonsIn, meshOf, gives, rules}
 use Rattle.format.specs.Written.{goodPolygon, goodNames, goodSurface, goodMesh}
 use Rattle.format.proofs.Facts.{both, impossible, every-at, all-first, all-rest, all-append-true, all-drop, all-part, between-true}
@@ -84,6 +84,7 @@ points-good (one-more {part = nameList ns} g gs) = points-good gs
 points-good (one-more {part = polygonList ps n} g gs) = points-good gs
 points-good (one-more {part = tagging t ts} g gs) = points-good gs
 points-good (one-more {part = surface s} g gs) = points-good gs
+points-good (one-more {part = layer} g gs) = points-good gs
 points-good (one-more {part = skippedChunk} g gs) = points-good gs
 
 -- names come once
@@ -95,6 +96,7 @@ no-more-names (one-more {b = b} {part = nameList ns} g gs) e = absurd (true≢fa
 no-more-names (one-more {part = polygonList ps n} g gs) e = no-more-names gs e
 no-more-names (one-more {part = tagging t ts} g gs) e = no-more-names gs e
 no-more-names (one-more {part = surface s} g gs) e = no-more-names gs e
+no-more-names (one-more {part = layer} g gs) e = no-more-names gs e
 no-more-names (one-more {part = skippedChunk} g gs) e = no-more-names gs e
 
 names-good : {kind : Kind} {b : Before} {parts : List Part} → GoodParts kind b parts → goodNames [] (joined (map namesOf parts)) ≡ true
@@ -105,6 +107,7 @@ names-good (one-more {b = b} {part = nameList ns} g gs) = rw (no-more-names gs r
 names-good (one-more {part = polygonList ps n} g gs) = names-good gs
 names-good (one-more {part = tagging t ts} g gs) = names-good gs
 names-good (one-more {part = surface s} g gs) = names-good gs
+names-good (one-more {part = layer} g gs) = names-good gs
 names-good (one-more {part = skippedChunk} g gs) = names-good gs
 
 -- ---- polygons
@@ -169,7 +172,7 @@ module _ (P N : ℕ) where
       → base + count (b .points) ≤ end
       → end + length (joined (map pointsOf parts)) ≤ P → count (b .names) + length (joined (map namesOf parts)) ≤ N → all (goodPolygon P N) latest ≡ true
       → all (goodPolygon P N) (polygonsIn base end latest parts) ≡ true
-  unfolding polygonsIn joined added after
+  unfolding polygonsIn joined added after all
   polygons-good no-more base end latest l points-in names-in g = g
   polygons-good (one-more {part = pointList ps} {parts = parts} h gs) base end latest l points-in names-in g =
       polygons-good gs end (end + length ps) latest (omega arith) (omega (arith, length-append ps (joined (map pointsOf parts)))) names-in g
@@ -181,6 +184,8 @@ module _ (P N : ℕ) where
   polygons-good (one-more {b = b} {part = tagging t ts} h gs) base end latest l points-in names-in g =
       polygons-good gs base end (tagged latest t ts) l points-in names-in (tagged-good t (count (b .names)) ts latest (omega arith) h g)
   polygons-good (one-more {part = surface s} h gs) base end latest l points-in names-in g = polygons-good gs base end latest l points-in names-in g
+  polygons-good (one-more {part = layer} h gs) base end latest l points-in names-in g =
+      all-append-true (goodPolygon P N) latest _ g (polygons-good gs end end [] (omega arith) points-in names-in refl)
   polygons-good (one-more {part = skippedChunk} h gs) base end latest l points-in names-in g = polygons-good gs base end latest l points-in names-in g
 
 -- ---- surfaces
@@ -273,6 +278,7 @@ surfaces-good (one-more {part = nameList ns} g gs) = surfaces-good gs
 surfaces-good (one-more {part = polygonList ps n} g gs) = surfaces-good gs
 surfaces-good (one-more {part = tagging t ts} g gs) = surfaces-good gs
 surfaces-good (one-more {part = surface s} g gs) = both g (surfaces-good gs)
+surfaces-good (one-more {part = layer} g gs) = surfaces-good gs
 surfaces-good (one-more {part = skippedChunk} g gs) = surfaces-good gs
 
 standing-good : (kind : Kind) (n : Name) (now : Option SurfaceChunk) (ss : List SurfaceChunk) → all (λ s. all (goodValue kind) (s .values)) ss ≡ true

@@ -22,7 +22,7 @@ use Rattle.format.specs.Items.{Verdict, fine, fault, Got, Reader, _>>=_, _andTh
 use Rattle.format.specs.Chunks.{Chunk, headerOf, ofLength, sizeOf, lengthOf, wellFormed, chunkOf, sub, unjudged}
 use Rattle.format.specs.Mesh.{Point, pointWords, Polygon, FACE, PATCH, Name}
 use Rattle.format.specs.Surfaces.{Value, value, levelTag, floatLevel, lwobValue, lwo2Value, sideNumber, attribute, blockType, blockHeader, block, held, nested, surfaceDepth}
-use Rattle.format.specs.Bodies.{Part, pointList, nameList, polygonList, tagging, surface, skippedChunk, point, pointsBody, newName, name, namesAfter, namesBody, vertex, lwobVertices, inNameList, detail, details, detailsAfter, face, facesBody, patch, patchesBody, countBits, lwo2Vertices, polygon, polygonKind, polygonsBody, pair, taggingBody, surfaceStrings, surfaceBody}
+use Rattle.format.specs.Bodies.{Part, pointList, nameList, polygonList, tagging, surface, layer, skippedChunk, point, pointsBody, layerBody, newName, name, namesAfter, namesBody, vertex, lwobVertices, inNameList, detail, details, detailsAfter, face, facesBody, patch, patchesBody, countBits, lwo2Vertices, polygon, polygonKind, polygonsBody, pair, taggingBody, surfaceStrings, surfaceBody}
 use Rattle.format.specs.Rules.{Before, there, count, when_read_, judge}
 use Rattle.format.specs.Written.{goodPolygon, noZero, goodNames}
 use Rattle.format.proofs.Facts.{impossible, both, every-at, all-first, all-rest, all-append-true, all-drop, all-part, between-true}
@@ -403,16 +403,26 @@ goodPart kind b (nameList ns) = not (there (b .names)) && goodNames [] ns
 goodPart kind b (polygonList ps n) = all (goodPolygon (count (b .points)) (count (b .names))) ps
 goodPart kind b (tagging t ts) = all (λ t. between 1 (count (b .names)) (t .1) && leb (t .1) surfaceLimit) ts
 goodPart kind b (surface s) = all (goodValue kind) (s .values)
+goodPart kind b layer = true
 goodPart kind b skippedChunk = true
 
 module _ {B : Type 0} {most : ℕ} where
+  obeys-point : Obeys B most (λ (p : Point). all finite (pointWords p)) point
+  unfolding point all
+  obeys-point = obeys-then _ obeys-float (λ x hx. obeys-then _ obeys-float (λ y hy. obeys-then _ obeys-float (λ z hz. obeys-give (λ h. both (hx h) (both (hy h) (both (hz h) refl))))))
+
   obeys-points : (kind : Kind) (b : Before) → Obeys B most (goodPart kind b) (pointsBody kind)
-  unfolding pointsBody point all
-  obeys-points kind b =
-      obeys-length _ _ (omega arith)
-      (obeys-then _
-      (obeys-many (obeys-then _ obeys-float (λ x hx. obeys-then _ obeys-float (λ y hy. obeys-then _ obeys-float (λ z hz. obeys-give {good = λ (p : Point). all finite (pointWords p)} (λ h. both (hx h) (both (hy h) (both (hz h) refl))))))))
-      (λ ps has. obeys-give has))
+  unfolding pointsBody
+  obeys-points kind b = obeys-length _ _ (omega arith) (obeys-then _ (obeys-many obeys-point) (λ ps has. obeys-give has))
+
+  obeys-layer : (kind : Kind) (b : Before) → Obeys B most (goodPart kind b) layerBody
+  unfolding layerBody
+  obeys-layer kind b =
+      obeys-then _ (obeys-uint 2)
+      (λ number h. obeys-then _ (obeys-uint 2)
+      (λ flags h. obeys-then _ obeys-point
+      (λ pivot h. obeys-then _ obeys-string
+      (λ called h. obeys-then _ (record { each = obeys-upTo (obeys-uint 2) 1 }) (λ parent h. obeys-give (λ h. refl))))))
 
   obeys-names-after : (k : ℕ) (earlier : List Name) → Obeys B most (goodNames earlier) (namesAfter k earlier)
   unfolding namesAfter name goodNames numberOf
@@ -585,6 +595,7 @@ sound-judge {B} kind b t =
       of-polygons = λ e. sound-when _ (λ ok m. obeys-polygons _ 0 kind b refl);
       of-tagging = λ e. sound-when _ (λ ok m. obeys-tagging _ _ kind b refl);
       of-surface = λ e. sound-when _ (λ ok m. obeys-surface kind b);
+      of-layer = λ e. sound-when _ (λ ok m. obeys-layer kind b);
       of-skipped = record { each = λ body bytes. record { is-good = λ h. refl } };
     })
 

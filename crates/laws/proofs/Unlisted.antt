@@ -14,7 +14,7 @@ use Rattle.format.specs.declared.Kind.{Kind}
 use Rattle.format.specs.declared.Kind.the-variants.{LWOB, LWO2}
 use Rattle.format.specs.Chunks.{Chunk, sizeOf, Chunks, finished, broken, chunk}
 use Rattle.format.specs.Mesh.{Mesh, Polygon}
-use Rattle.format.specs.Bodies.{Part, pointList, nameList, polygonList, tagging, surface, skippedChunk}
+use Rattle.format.specs.Bodies.{Part, pointList, nameList, polygonList, tagging, surface, layer, skippedChunk}
 use Rattle.format.specs.Rules.{added, unlistedTag, Before, start, after, judge, pointsOf, namesOf, surfacesOf, skippedOf, detailsOf, polygonsIn, meshOf, gives, outcome}
 use Rattle.format.proofs.Facts.{impossible}
 use Rattle.format.proofs.ListedTags.{skips}
@@ -79,6 +79,7 @@ polygons-same base end latest (nameList ns ∷ ps) qs = polygons-same _ _ _ ps q
 polygons-same base end latest (polygonList gs n ∷ ps) qs = ap (λ (l : List Polygon). latest ++ l) (polygons-same _ _ _ ps qs)
 polygons-same base end latest (tagging t ts ∷ ps) qs = polygons-same _ _ _ ps qs
 polygons-same base end latest (surface s ∷ ps) qs = polygons-same _ _ _ ps qs
+polygons-same base end latest (layer ∷ ps) qs = ap (λ (l : List Polygon). latest ++ l) (polygons-same _ _ _ ps qs)
 polygons-same base end latest (skippedChunk ∷ ps) qs = polygons-same _ _ _ ps qs
 
 mesh-same : (kind : Kind) (ps qs : List Part) → meshOf kind (ps ++ skippedChunk ∷ qs) ≡ meshOf kind (ps ++ qs)

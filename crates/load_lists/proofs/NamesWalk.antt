@@ -30,9 +30,10 @@ no-names kind b t body part other j =
     (record {
       of-points = λ e ps. refl;
       of-names = λ e missing ns. impossible (cc (sym e ∙ other));
-      of-polygons = λ ps n. refl;
-      of-tagging = λ type ts. refl;
+      of-polygons = λ ok ps n. refl;
+      of-tagging = λ ok type ts. refl;
       of-surface = λ e s. refl;
+      of-layer = refl;
       of-skipped = refl;
     })
     .each body part j

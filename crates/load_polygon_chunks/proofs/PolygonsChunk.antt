@@ -1,4 +1,4 @@
--- One chunk after those whose polygons stand in the tables, by its tag: it is points, names, polygons, tags, or none of them, and then changes nothing.
+-- One chunk after those whose polygons stand in the tables, by its tag: it is points, names, polygons, tags, a layer, or none of them, and then changes nothing.
 use mathlib.Core.Path.{_≡_, refl, sym, subst, _∙_}
 use mathlib.Core.List.{List, map}
 use mathlib.Core.Bool.{true, false}
@@ -10,7 +10,7 @@ use Rattle.format.specs.declared.Kind.the-variants.{LWOB, LWO2}
 use Rattle.format.specs.Bytes.{if_then_else_, _is_}
 use Rattle.format.specs.Items.{fine, Reader, whole}
 use Rattle.format.specs.Mesh.{Polygon, pointWords, pointSize, polygonSize}
-use Rattle.format.specs.Bodies.{Part, pointList, nameList, skippedChunk, pointsBody, namesBody, taggingBody, surfaceBody}
+use Rattle.format.specs.Bodies.{Part, pointList, nameList, layer, skippedChunk, pointsBody, namesBody, layerBody, taggingBody, surfaceBody}
 use Rattle.format.specs.Rules.{added, Before, after, count, when_read_, judge, from}
 use Rattle.format.specs.Contracts.{vertexTotal}
 use Rattle.format.proofs.Facts.{length-each}
@@ -19,14 +19,14 @@ use Rattle.load_vertices.specs.declared.Ends.{Ends}
 use Rattle.load_polygons.specs.Contracts as body
 use Rattle.load_taggings.specs.Contracts.{TagsRoom, TagsPut}
 use Rattle.load_polygon_chunks.specs.declared.polygons.Latest.{Latest}
-use Rattle.load_polygon_chunks.specs.Held.{Held, heldPolygons, heldAfter, withPoints, withNames, withPolygons, HeldStored, PartRoom, PartPut}
+use Rattle.load_polygon_chunks.specs.Held.{Held, heldPolygons, heldAfter, withPoints, withNames, withPolygons, withLayer, HeldStored, PartRoom, PartPut}
 use Rattle.format.proofs.Tagging.{tagged-length}
 use Rattle.format.proofs.PolygonTables.{vertices-from}
 use Rattle.load_lists.proofs.PointsChunk.{chunk-length}
-use Rattle.format.proofs.PartByTag.{makes-surface, Always, always-when, always-if, always-skipped, Made, Holds, polygonsFrom, taggingFrom, holds-points}
-use Rattle.load_polygon_chunks.proofs.PolygonsInTables.{same-length, stored-more, stored-tagged}
+use Rattle.format.proofs.PartByTag.{makes-surface, Always, always-when, always-if, always-skipped, Made, Holds, polygonsFrom, taggingFrom, holds-points, holds-layer}
+use Rattle.load_polygon_chunks.proofs.PolygonsInTables.{same-length, stored-more, stored-tagged, stored-before}
 
--- ---- chunks without points, names, polygons and tags
+-- ---- chunks that change none of the lists
 
 abbrev Idle : Part → Type 0
 Idle part = (h : Held) → heldAfter h part ≡ h
@@ -41,9 +41,9 @@ module _ (b : Before) (t : ℕ) (not-points : t is "PNTS" ≡ false) (not-polygo
   unfolding judge
   lwob-rest not-names not-patches = rw (not-points, not-names, not-polygons, not-patches) (idle-rest LWOB t)
 
-  pub lwo2-rest : t is "TAGS" ≡ false → t is "PTAG" ≡ false → Always Idle (judge LWO2 b t)
+  pub lwo2-rest : t is "TAGS" ≡ false → t is "PTAG" ≡ false → t is "LAYR" ≡ false → Always Idle (judge LWO2 b t)
   unfolding judge
-  lwo2-rest not-names not-tags = rw (not-points, not-names, not-polygons, not-tags) (idle-rest LWO2 t)
+  lwo2-rest not-names not-tags not-layer = rw (not-points, not-names, not-polygons, not-tags, not-layer) (idle-rest LWO2 t)
 
 -- ---- one chunk
 
@@ -194,3 +194,27 @@ module _ {kind : Kind} {t : ℕ} {s : List ℕ} {nameCount : ℕ} {l : Latest} {
             stored = stored-tagged (w .stored) (p .of .0) (p .of .1) (rw (latest-count r) at q) (p .sound) (latest-fits r);
           });
     }
+
+-- a layer
+module _ {t : ℕ} {s : List ℕ} {nameCount : ℕ} {l : Latest} {words vertices : List ℕ} (e : t is "LAYR" ≡ true) where
+  layer-in : (r : PartRoom LWO2 t s nameCount l words vertices) → r .part ≡ layer
+  layer-in r = holds-layer e .each (r .held .before) (drop 8 s) (r .part) (r .sound) .part-is
+
+  pub layer-fits : PartRoom LWO2 t s nameCount l words vertices → l .base + l .points < 2 ^ 32
+  unfolding heldAfter after
+  layer-fits r = omega (arith, rw (layer-in r) at (r .few), r .held-stored .base-is, r .held-stored .points-are)
+
+  pub layer-put : {l′ : Latest} → l′ ≡ withLayer l → PartPut LWO2 t s nameCount l words words vertices vertices l′
+  unfolding heldAfter after
+  layer-put same = record {
+    put = λ r.
+        let w = r .held-stored in
+        rw (layer-in r, same)
+        (record {
+          base-is = omega (arith, w .base-is, w .points-are);
+          points-are = refl;
+          names-are = w .names-are;
+          polygons-are = refl;
+          stored = stored-before (w .stored);
+        });
+  }

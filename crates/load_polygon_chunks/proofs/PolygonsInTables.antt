@@ -1,6 +1,6 @@
 -- Polygons that stand at the front of the tables: more of them are put behind, and tags over the latest change no vertices and no lengths.
 use mathlib.Core.Path.{_≡_, refl, sym, ap, subst, _∙_}
-use mathlib.Core.List.{List, [], _∷_, _++_, map}
+use mathlib.Core.List.{List, [], _∷_, _++_, map, append-nil}
 use Prim.Native.Nat.{ℕ, _+_, _*_, _≤_}
 use native.Mathlib.Omega.{arith}
 use lib.ListN.{length, length-append, length-map}
@@ -52,6 +52,24 @@ stored-none words vertices = record {
 }
 
 module _ {earlier latest : List Polygon} {start end last : ℕ} {words₀ words vertices₀ vertices : List ℕ} (w : AllStored earlier latest start end last words₀ words vertices₀ vertices) where
+  -- the next ones start after all of these
+  all-before : end ≡ length (earlier ++ latest) * polygonSize
+  all-before = omega (arith, w .start-is, w .end-is, length-append earlier latest)
+
+  -- all of these are earlier ones, and there are no latest yet
+  pub stored-before : AllStored (earlier ++ latest) [] end end last words₀ words vertices₀ vertices
+  stored-before =
+      let same = append-nil (earlier ++ latest) in
+      record {
+        start-is = all-before;
+        end-is = omega arith;
+        last-is = rw same (w .last-is);
+        put-words = rw same (w .put-words);
+        put-vertices = rw same (w .put-vertices);
+        kept-words = w .kept-words;
+        kept-vertices = w .kept-vertices;
+      }
+
   pub stored-more : {base : ℕ} (ps : List Polygon) {words′ vertices′ : List ℕ} {ends : Ends}
       → PolygonsStored base ps words end words′ vertices last vertices′ ends
       → end + length ps * polygonSize ≤ length words → last + vertexTotal ps ≤ length vertices
@@ -61,10 +79,9 @@ module _ {earlier latest : List Polygon} {start end last : ℕ} {words₀ words 
       let many : length new ≡ length ps = length-map ps (from base) in
       let total : length (polygonsVertices new) ≡ vertexTotal ps = vertices-from base ps in
       let long : length (polygonsWords new) ≡ length ps * polygonSize = words-from base ps in
-      let start-is : end ≡ length (earlier ++ latest) * polygonSize = omega (arith, w .start-is, w .end-is, length-append earlier latest) in
-      let words-here : end ≡ length (polygonsWords (earlier ++ latest)) = omega (arith, start-is, words-length (earlier ++ latest)) in
+      let words-here : end ≡ length (polygonsWords (earlier ++ latest)) = omega (arith, all-before, words-length (earlier ++ latest)) in
       record {
-        start-is = start-is;
+        start-is = all-before;
         end-is = omega (arith, q .words-end, many);
         last-is = omega (arith, q .vertices-end, w .last-is, total, total-append (λ (p : Polygon). p .vertices) (earlier ++ latest) new);
         put-words = put-behind polygonWords (earlier ++ latest) new (w .put-words) words-here (q .put-words) (omega (arith, words-fit, long, w .kept-words));

@@ -10,7 +10,7 @@ use Rattle.format.specs.Bytes.{joined}
 use Rattle.format.specs.Items.{fine}
 use Rattle.format.specs.Chunks.{chunks}
 use Rattle.format.specs.Mesh.{Polygon, Name}
-use Rattle.format.specs.Bodies.{Part, pointList, nameList, polygonList, tagging, surface, skippedChunk}
+use Rattle.format.specs.Bodies.{Part, pointList, nameList, polygonList, tagging, surface, layer, skippedChunk}
 use Rattle.format.specs.Rules.{added, Before, after, judge, count, from, polygonsIn}
 use Rattle.format.specs.Contracts.{FilePut, allNames, polygonsVertices}
 use Rattle.format.proofs.Verdicts.{same-fine}
@@ -40,6 +40,7 @@ one-part h (nameList ns) more = refl
 one-part h (polygonList ps n) more = append-assoc (h .earlier) (h .latest) _
 one-part h (tagging t ts) more = refl
 one-part h (surface s) more = refl
+one-part h layer more = let same : endOf h + 0 ≡ endOf h = omega arith in rw same (append-assoc (h .earlier) (h .latest) _)
 one-part h skippedChunk more = refl
 
 same-before : (h : Held) (part : Part) → heldAfter h part .before ≡ after (h .before) part
@@ -49,6 +50,7 @@ same-before h (nameList ns) = refl
 same-before h (polygonList ps n) = refl
 same-before h (tagging t ts) = refl
 same-before h (surface s) = refl
+same-before h layer = refl
 same-before h skippedChunk = refl
 
 -- ---- what is held fits where all polygons do
@@ -57,18 +59,23 @@ record Fewer (ps qs : List Polygon) : Type 0 where
   polygons : length ps ≤ length qs
   vertices : length (polygonsVertices ps) ≤ length (polygonsVertices qs)
 
+fewer-before : (h : Held) (new : List Polygon) → Fewer (heldPolygons h) (heldPolygons h ++ new)
+fewer-before h new = record {
+  polygons = omega (arith, length-append (heldPolygons h) new);
+  vertices = omega (arith, total-append (λ (p : Polygon). p .vertices) (heldPolygons h) new);
+}
+
 fewer-part : (h : Held) (part : Part) → Fewer (heldPolygons h) (heldPolygons (heldAfter h part))
 unfolding heldAfter
 fewer-part h (pointList ps) = record { polygons = omega arith; vertices = omega arith }
 fewer-part h (nameList ns) = record { polygons = omega arith; vertices = omega arith }
-fewer-part h (polygonList ps n) =
-    let new = map (from (h .base)) ps in
-    record { polygons = omega (arith, length-append (heldPolygons h) new); vertices = omega (arith, total-append (λ (p : Polygon). p .vertices) (heldPolygons h) new) }
+fewer-part h (polygonList ps n) = fewer-before h (map (from (h .base)) ps)
 fewer-part h (tagging t ts) = record {
   polygons = omega (arith, same-length (h .earlier) (h .latest) t ts);
   vertices = omega (arith, ap length (same-vertices (h .earlier) (h .latest) t ts));
 }
 fewer-part h (surface s) = record { polygons = omega arith; vertices = omega arith }
+fewer-part h layer = fewer-before h []
 fewer-part h skippedChunk = record { polygons = omega arith; vertices = omega arith }
 
 fewer : (more : List Part) (h : Held) → Fewer (heldPolygons h) (allFrom h more)
@@ -90,6 +97,7 @@ end-after h (nameList ns) = omega arith
 end-after h (polygonList ps n) = omega arith
 end-after h (tagging t ts) = omega arith
 end-after h (surface s) = omega arith
+end-after h layer = omega arith
 end-after h skippedChunk = omega arith
 
 -- the names so far and those that follow are all names
@@ -101,6 +109,7 @@ names-after b (nameList ns) more first = rw (first ns refl) (omega (arith, lengt
 names-after b (polygonList ps n) more first = refl
 names-after b (tagging t ts) more first = refl
 names-after b (surface s) more first = refl
+names-after b layer more first = refl
 names-after b skippedChunk more first = refl
 
 -- ---- the walk

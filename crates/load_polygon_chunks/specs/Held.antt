@@ -8,7 +8,7 @@ use Rattle.format.specs.declared.Kind.{Kind}
 use Rattle.format.specs.Limits.{fileLimit}
 use Rattle.format.specs.Items.{fine}
 use Rattle.format.specs.Mesh.{Polygon, polygonSize}
-use Rattle.format.specs.Bodies.{Part, pointList, nameList, polygonList, tagging, surface, skippedChunk}
+use Rattle.format.specs.Bodies.{Part, pointList, nameList, polygonList, tagging, surface, layer, skippedChunk}
 use Rattle.format.specs.Rules.{Before, start, after, count, judge, from, tagged}
 use Rattle.format.specs.Contracts.{Put, polygonsWords, polygonsVertices}
 use Rattle.load_vertices.specs.declared.Ends.{Ends}
@@ -45,6 +45,7 @@ heldAfter h (polygonList ps n) = record {
 }
 heldAfter h (tagging t ts) = record { before = h .before; base = h .base; earlier = h .earlier; latest = tagged (h .latest) t ts }
 heldAfter h (surface s) = h
+heldAfter h layer = record { before = after (h .before) layer; base = endOf h; earlier = heldPolygons h; latest = [] }
 heldAfter h skippedChunk = h
 
 -- ---- what the code keeps of them
@@ -60,6 +61,9 @@ withNames l n = record { base = l .base; points = l .points; names = n; start = 
 
 abbrev pub withPolygons : Latest → Ends → Latest
 withPolygons l e = record { base = l .base; points = l .points; names = l .names; start = l .end; end = e .polygons; last = e .vertices }
+
+abbrev pub withLayer : Latest → Latest
+withLayer l = record { base = l .base + l .points; points = 0; names = l .names; start = l .end; end = l .end; last = l .last }
 
 -- The polygons stand at the front of the tables, which were words₀ and vertices₀. The words of the latest stand from the index `start` to `end`, and all
 -- vertices before the index `last`.

@@ -4,9 +4,10 @@ ghost use Prim.Native.Nat.{_+_, _<_, _^_};
 ghost use Rattle.format.specs.declared.Kind.the-variants.{LWOB, LWO2};
 ghost use Rattle.format.specs.Contracts.{FilePut};
 ghost use Rattle.load_polygon_chunks.specs.Contracts.{filePolygons, fileVertices, FilePolygonsRoom};
-ghost use Rattle.load_polygon_chunks.specs.Held.{nothingLatest, withPoints, withNames, withPolygons, PartRoom, PartPut};
+ghost use Rattle.load_polygon_chunks.specs.Held.{nothingLatest, withPoints, withNames, withPolygons, withLayer, PartRoom, PartPut};
 use format::Kind;
 use format::POLYGON_WORDS;
+use format::tags::LAYR;
 use format::tags::PCHS;
 use format::tags::PNTS;
 use format::tags::POLS;
@@ -80,6 +81,16 @@ fn with_polygons(l: Latest, ends: Ends) -> Latest
     later
 }
 
+// A layer has neither points nor polygons yet. Its own come after all of those before it.
+fn with_layer(l: Latest) -> Latest
+    requires { ⌜ l .base + l .points < 2 ^ 32 ⌝ }
+    ensures { λ r. ⌜ r ≡ withLayer l ⌝ }
+{
+    let mut later = with_points(l, 0);
+    later.start = l.end;
+    later
+}
+
 // What the numbers in the next polygons are read by.
 fn lists_of(l: Latest) -> Lists
     ensures { λ r. ⌜ r ≡ record { base = l .base; points = l .points; names = l .names } ⌝ }
@@ -130,7 +141,7 @@ fn put_lwob(
     l
 }
 
-// A chunk of an LWO2 file. A PTAG is for the polygons of the latest POLS, which take three words each.
+// A chunk of an LWO2 file. A PTAG is for the polygons of the latest POLS, which take three words each. A layer empties the latest lists.
 fn put_lwo2(
     s: &[u8],
     tag: u32,
@@ -160,6 +171,10 @@ fn put_lwo2(
             words,
             l.start,
         );
+        return l;
+    }
+    if tag == LAYR {
+        return with_layer(l);
     }
     l
 }

@@ -9,7 +9,7 @@ use Rattle.format.specs.Bytes.{if_then_else_, f32One}
 use Rattle.format.specs.Items.{fine}
 use Rattle.format.specs.Mesh.{Surface, missing}
 use Rattle.format.specs.Surfaces.{bit, recordOf}
-use Rattle.format.specs.Bodies.{Part, pointList, nameList, polygonList, tagging, surface, skippedChunk, surfaceBody}
+use Rattle.format.specs.Bodies.{Part, pointList, nameList, polygonList, tagging, surface, layer, skippedChunk, surfaceBody}
 use Rattle.format.specs.Contracts.{Judged}
 use Rattle.surface_levels.specs.Levels.{HasBits, bits}
 use Rattle.load_values.specs.declared.last_values.Last.{Last}
@@ -94,6 +94,7 @@ recordIn kind (pointList ps) = missing
 recordIn kind (nameList ns) = missing
 recordIn kind (polygonList ps n) = missing
 recordIn kind (tagging t ts) = missing
+recordIn kind layer = missing
 recordIn kind skippedChunk = missing
 
 pub record RecordAt (kind : Kind) (s : List ℕ) (r : Record) : Type 0 where

@@ -75,9 +75,10 @@ no-surfaces kind b t body part other j =
     (record {
       of-points = λ e ps. refl;
       of-names = λ e missing ns. refl;
-      of-polygons = λ ps n. refl;
-      of-tagging = λ type ts. refl;
+      of-polygons = λ ok ps n. refl;
+      of-tagging = λ ok type ts. refl;
       of-surface = λ e s. impossible (cc (sym e ∙ other));
+      of-layer = refl;
       of-skipped = refl;
     })
     .each body part j

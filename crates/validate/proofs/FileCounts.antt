@@ -8,7 +8,7 @@ use borrow.Author.Needs.{needs as finding}
 use Rattle.format.specs.declared.Kind.{Kind}
 use Rattle.format.specs.Bytes.{sum, joined}
 use Rattle.format.specs.Mesh.{Polygon, needs}
-use Rattle.format.specs.Bodies.{Part, pointList, nameList, polygonList, tagging, surface, skippedChunk}
+use Rattle.format.specs.Bodies.{Part, pointList, nameList, polygonList, tagging, surface, layer, skippedChunk}
 use Rattle.format.specs.Rules.{added, after, pointsOf, namesOf, skippedOf, detailsOf, from, tagged, polygonsIn, meshOf}
 use Rattle.format.specs.Contracts.{polygonsListed, vertexTotal}
 use Rattle.format.proofs.Facts.{sum-map-append}
@@ -35,6 +35,7 @@ same-before l (nameList ns) = refl
 same-before l (polygonList ps n) = refl
 same-before l (tagging t ts) = refl
 same-before l (surface s) = refl
+same-before l layer = refl
 same-before l skippedChunk = refl
 
 -- ---- all counts together
@@ -46,12 +47,14 @@ weight-is (nameList ns) = refl
 weight-is (polygonList ps n) = refl
 weight-is (tagging t ts) = refl
 weight-is (surface s) = refl
+weight-is layer = refl
 weight-is skippedChunk = refl
 
 pub totals-grow : (t : Totals) (c : Counted) → allOf (totalsWith t c) ≡ allOf t + weight c
 totals-grow t (Counted.Points n) = omega arith
 totals-grow t (Counted.Names n b) = omega arith
 totals-grow t (Counted.Polygons z) = omega arith
+totals-grow t Counted.Layer = omega arith
 totals-grow t Counted.Nothing = omega arith
 totals-grow t Counted.Skipped = omega arith
 
@@ -95,6 +98,12 @@ counted-from (tagging t ts ∷ parts) seen base end latest =
     search finding
 counted-from (surface s ∷ parts) seen base end latest =
     let w = counted-from parts (seenWith seen (countedOf (surface s))) base end latest in
+    search finding
+counted-from (layer ∷ parts) seen base end latest =
+    let w = counted-from parts (seenWith seen (countedOf layer)) end end [] in
+    let all = polygonsIn end end [] parts in
+    let long = length-append latest all in
+    let wide = sum-map-append (λ (p : Polygon). length (p .vertices)) latest all in
     search finding
 counted-from (skippedChunk ∷ parts) seen base end latest =
     let w = counted-from parts (seenWith seen (countedOf skippedChunk)) base end latest in

@@ -26,6 +26,7 @@ abbrev pub lengthsAfter : Lengths → Counted → Lengths
 lengthsAfter l (Counted.Points n) = record { points = Length.Of n; polygons = l .polygons; names = l .names }
 lengthsAfter l (Counted.Names n b) = record { points = l .points; polygons = l .polygons; names = Length.Of n }
 lengthsAfter l (Counted.Polygons z) = record { points = l .points; polygons = Length.Of (z .polygons); names = l .names }
+lengthsAfter l Counted.Layer = record { points = Length.Missing; polygons = Length.Missing; names = l .names }
 lengthsAfter l Counted.Nothing = l
 lengthsAfter l Counted.Skipped = l
 
@@ -57,6 +58,7 @@ totalsWith t (Counted.Polygons z) = record {
   skipped = t .skipped;
   details = t .details + z .details;
 }
+totalsWith t Counted.Layer = t
 totalsWith t Counted.Nothing = t
 totalsWith t Counted.Skipped = record {
   points = t .points;
@@ -79,6 +81,7 @@ abbrev pub weight : Counted → ℕ
 weight (Counted.Points n) = n
 weight (Counted.Names n b) = n + b
 weight (Counted.Polygons z) = z .polygons + z .vertices + z .details
+weight Counted.Layer = 0
 weight Counted.Nothing = 0
 weight Counted.Skipped = 1
 

@@ -26,11 +26,12 @@ pub struct Seen {
 pub fn nothing_seen() -> Seen
     ensures { λ r. ⌜ r ≡ nothingSeen ⌝ }
 {
+    let none = Length::Missing;
     Seen {
         lengths: Lengths {
-            points: Length::Missing,
-            polygons: Length::Missing,
-            names: Length::Missing,
+            points: none,
+            polygons: none,
+            names: none,
         },
         totals: Totals {
             points: 0,
@@ -44,7 +45,7 @@ pub fn nothing_seen() -> Seen
     }
 }
 
-// A new list takes the place of the latest one.
+// A new list takes the place of the latest one. A layer empties both, and the names are the file's.
 pub fn lengths_after(lengths: Lengths, part: Counted) -> Lengths
     ensures { λ r. ⌜ r ≡ lengthsAfter lengths part ⌝ }
 {
@@ -65,6 +66,11 @@ pub fn lengths_after(lengths: Lengths, part: Counted) -> Lengths
         Counted::Polygons(z) => Lengths {
             points,
             polygons: Length::Of(z.polygons),
+            names,
+        },
+        Counted::Layer => Lengths {
+            points: Length::Missing,
+            polygons: Length::Missing,
             names,
         },
         Counted::Nothing => lengths,
@@ -94,6 +100,7 @@ pub fn totals_with(totals: Totals, part: Counted) -> Totals
             t.details += z.details;
             t
         }
+        Counted::Layer => totals,
         Counted::Nothing => totals,
         Counted::Skipped => {
             t.skipped += 1;

@@ -9,9 +9,9 @@ use Rattle.format.specs.declared.Fault.the-variants.{WrongLength, OutOfOrder}
 use Rattle.format.specs.Bytes.{if_then_else_, empty}
 use Rattle.format.specs.Items.{Verdict, fine, fault, Got, Reader, _andThen_, whole}
 use Rattle.format.specs.Contracts.{nothing, Judged}
-use Rattle.format.specs.Bodies.{Part, skippedChunk, pointsBody, namesBody, facesBody, patchesBody, polygonsBody, taggingBody, surfaceBody}
+use Rattle.format.specs.Bodies.{Part, skippedChunk, pointsBody, namesBody, layerBody, facesBody, patchesBody, polygonsBody, taggingBody, surfaceBody}
 use Rattle.format.specs.Rules.{added, when_read_}
-use Rattle.format.proofs.PartByTag.{Makes, makes-points, makes-names, makes-faces, makes-patches, makes-polygons, makes-tagging, makes-surface}
+use Rattle.format.proofs.PartByTag.{Makes, makes-points, makes-names, makes-faces, makes-patches, makes-polygons, makes-tagging, makes-surface, makes-layer}
 use Rattle.validate_lists.specs.Contracts.{pointCount, nameSizes}
 use Rattle.validate_polygons.specs.Contracts.{sizesOf}
 use Rattle.validate_chunk.specs.declared.chunk.Counted.{Counted}
@@ -50,6 +50,10 @@ adds-polygons points = record { each = makes-polygons _ (λ ps n. refl) points }
 pub adds-surface : (kind : Kind) → Adds (λ z. Counted.Nothing) nothing (surfaceBody kind)
 unfolding countedOf
 adds-surface kind = record { each = makes-surface _ kind (λ s. refl) }
+
+pub adds-layer : Adds (λ z. Counted.Layer) nothing layerBody
+unfolding countedOf
+adds-layer = record { each = makes-layer _ refl }
 
 -- ---- the chunk
 

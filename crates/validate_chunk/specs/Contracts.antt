@@ -8,7 +8,7 @@ use lib.Dec.{eqb}
 use lib.ListN.{length, drop}
 use Rattle.format.specs.Bytes.{if_then_else_, tagNumber, sum}
 use Rattle.format.specs.Items.{Verdict, fine, fault, _andThen_}
-use Rattle.format.specs.Bodies.{Part, pointList, nameList, polygonList, tagging, surface, skippedChunk, facesBody, patchesBody}
+use Rattle.format.specs.Bodies.{Part, pointList, nameList, polygonList, tagging, surface, layer, skippedChunk, facesBody, patchesBody}
 use Rattle.format.specs.Rules.{Before, there, count, when_read_}
 use Rattle.validate_polygons.specs.Contracts.{sizesOf}
 use Rattle.validate_chunk.specs.declared.lengths.Length.{Length}
@@ -23,6 +23,7 @@ countedOf (nameList ns) = Counted.Names (length ns) (sum (map length ns))
 countedOf (polygonList ps n) = Counted.Polygons (sizesOf (polygonList ps n))
 countedOf (tagging t ts) = Counted.Nothing
 countedOf (surface s) = Counted.Nothing
+countedOf layer = Counted.Layer
 countedOf skippedChunk = Counted.Skipped
 
 abbrev pub lengthAs : Length → Option ℕ

@@ -16,6 +16,7 @@ use crate::lengths::Lengths;
 use crate::lengths::count;
 use format::Fault;
 use format::Kind;
+use format::tags::LAYR;
 use format::tags::PCHS;
 use format::tags::PNTS;
 use format::tags::POLS;
@@ -23,6 +24,7 @@ use format::tags::PTAG;
 use format::tags::SRFS;
 use format::tags::SURF;
 use format::tags::TAGS;
+use validate_layers::layer::layer_body;
 use validate_lists::names::Names;
 use validate_lists::names::names_body;
 use validate_lists::points::Points;
@@ -37,11 +39,12 @@ use validate_taggings::tagging::tagging_body;
 use wire::Checked;
 use wire::Refusal;
 
-// What a chunk adds to the counts.
+// What a chunk adds to the counts. A layer adds nothing to them, and empties the latest lists.
 pub enum Counted {
     Points(usize),
     Names { count: usize, bytes: usize },
     Polygons(Sizes),
+    Layer,
     Nothing,
     Skipped,
 }
@@ -91,12 +94,12 @@ fn of_polygons(p: Polygons) -> Judgement
     }
 }
 
-fn of_checked(c: Checked) -> Judgement
-    ensures { λ r. ⌜ judgedAs r ≡ (checkedAs c andThen λ z. fine Counted.Nothing) ⌝ }
+fn of_checked(c: Checked, part: Counted) -> Judgement
+    ensures { λ r. ⌜ judgedAs r ≡ (checkedAs c andThen λ z. fine part) ⌝ }
 {
     match c {
         Checked::Stop(f) => Judgement::Stop(f),
-        Checked::Fine => Judgement::Fine(Counted::Nothing),
+        Checked::Fine => Judgement::Fine(part),
     }
 }
 
@@ -161,7 +164,7 @@ fn tagging_chunk(s: &[u8], lengths: Lengths) -> Judgement
         return out_of_order();
     };
     let names = lengths.names;
-    of_checked(tagging_body(s, p, count(names)))
+    of_checked(tagging_body(s, p, count(names)), Counted::Nothing)
 }
 
 // LWOB's listed tags. Any other chunk is skipped and counted.
@@ -181,7 +184,7 @@ fn lwob_chunk(s: &[u8], tag: u32, lengths: Lengths) -> Judgement
         return lwob_polygons(s, tag, lengths);
     }
     if tag == SURF {
-        return of_checked(surface_body(s, Kind::LWOB));
+        return of_checked(surface_body(s, Kind::LWOB), Counted::Nothing);
     }
     Judgement::Fine(Counted::Skipped)
 }
@@ -203,7 +206,10 @@ fn lwo2_chunk(s: &[u8], tag: u32, lengths: Lengths) -> Judgement
         return tagging_chunk(s, lengths);
     }
     if tag == SURF {
-        return of_checked(surface_body(s, Kind::LWO2));
+        return of_checked(surface_body(s, Kind::LWO2), Counted::Nothing);
+    }
+    if tag == LAYR {
+        return of_checked(layer_body(s), Counted::Layer);
     }
     Judgement::Fine(Counted::Skipped)
 }

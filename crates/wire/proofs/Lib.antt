@@ -1,4 +1,3 @@
 mod Halves
-pub mod FirstItem
 pub mod ReadAgain
 pub mod Items

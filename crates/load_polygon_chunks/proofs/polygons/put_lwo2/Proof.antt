@@ -4,7 +4,7 @@ use borrow.Author.Tests.{eq-eqb, ne-eqb}
 use Rattle.format.specs.Bytes.{number}
 use Rattle.format.specs.Bodies.{polygonsBody}
 use Rattle.format.proofs.PartByTag.{holds-names, holds-polygons, holds-tagging}
-use Rattle.load_polygon_chunks.proofs.PolygonsChunk.{points-fit, points-put, names-put, polygons-room, polygons-put, tags-room, tags-put, nothing-new, lwo2-rest}
+use Rattle.load_polygon_chunks.proofs.PolygonsChunk.{points-fit, points-put, names-put, polygons-room, polygons-put, tags-room, tags-put, layer-fits, layer-put, nothing-new, lwo2-rest}
 use Rattle.load_polygon_chunks.proofs.polygons.put_lwo2.Statement.{statement}
 use Rattle.load_polygon_chunks.proofs.polygons.put_lwo2.Tie as tie
 
@@ -32,9 +32,12 @@ returns-4 c =
     let u = c .before .before in
     tags-put (holds-tagging (eq-eqb _ _ (u .before .before .before .if4 .taken))) (u .put-taggings .ensures)
 
-returns-5 : tie.Need-returns-5
+returns-6 : tie.Need-returns-6
 unfolding number
-returns-5 c = nothing-new (λ b. lwo2-rest b _ (ne-eqb _ _ (c .before .before .before .if1 .left)) (ne-eqb _ _ (c .before .if3 .left)) (ne-eqb _ _ (c .before .before .if2 .left)) (ne-eqb _ _ (c .if4 .left)))
+returns-6 c =
+    let p = c .before .before .before .before in
+    nothing-new
+    (λ b. lwo2-rest b _ (ne-eqb _ _ (p .if1 .left)) (ne-eqb _ _ (c .before .before .if3 .left)) (ne-eqb _ _ (c .before .before .before .if2 .left)) (ne-eqb _ _ (c .before .if4 .left)) (ne-eqb _ _ (c .if5 .left)))
 
 pub put-lwo2-spec : {M : Type 1} → statement M
 unfolding number
@@ -57,4 +60,6 @@ put-lwo2-spec =
     put-taggings-requires
     (λ c. search needs)
     returns-4
-    returns-5)
+    (λ c κs. layer-fits (eq-eqb _ _ (c .if5 .taken)) (c .before .before .before .before .before .before .before .before .pre))
+    (λ c. layer-put (eq-eqb _ _ (c .before .if5 .taken)) (c .with-layer .ensures))
+    returns-6)

@@ -12,6 +12,9 @@ returns-2 c = rw (c .before .part2 .given .1)
 returns-3 : tie.Need-returns-3
 returns-3 c = rw (c .before .part3 .given .1)
 
+returns-4 : tie.Need-returns-4
+returns-4 c = rw (c .enum-told .given .1)
+
 pub lengths-after-spec : {M : Type 1} → statement M
 lengths-after-spec =
     tie.close
@@ -21,8 +24,10 @@ lengths-after-spec =
     (λ c. search needs)
     (λ c. search needs)
     (λ c. search needs)
+    (λ c. search needs)
     returns
     returns-2
     returns-3
+    returns-4
     (λ c. search needs)
     (λ c. search needs))

@@ -35,7 +35,7 @@ add-t-6 c =
     omega (arith, rw (p .part3 .given .1) at (p .before .before .pre))
 
 add-t-7 : tie.Need-add-t-7
-add-t-7 c = omega (arith, rw (c .before .enum-told2 .given .1) at (c .before .before .before .pre))
+add-t-7 c = omega (arith, rw (c .before .enum-told3 .given .1) at (c .before .before .before .pre))
 
 returns : tie.Need-returns
 returns c = rw (c .before .before .part .given .1)
@@ -46,8 +46,8 @@ returns-2 c = rw (c .before .before .before .part2 .given .1)
 returns-3 : tie.Need-returns-3
 returns-3 c = rw (c .before .before .before .before .before .before .before .part3 .given .1)
 
-returns-5 : tie.Need-returns-5
-returns-5 c = rw (c .before .enum-told2 .given .1)
+returns-6 : tie.Need-returns-6
+returns-6 c = rw (c .before .enum-told3 .given .1)
 
 pub totals-with-spec : {M : Type 1} → statement M
 totals-with-spec =
@@ -64,9 +64,11 @@ totals-with-spec =
     add-t-6
     (λ c. search needs)
     (λ c. search needs)
+    (λ c. search needs)
     add-t-7
     returns
     returns-2
     returns-3
     (λ c. search needs)
-    returns-5)
+    (λ c. search needs)
+    returns-6)

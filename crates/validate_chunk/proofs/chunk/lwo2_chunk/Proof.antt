@@ -3,7 +3,7 @@ use borrow.Author.Needs.{needs}
 use borrow.Author.Tests.{ne-eqb}
 use Rattle.format.specs.Bytes.{number}
 use Rattle.format.specs.Rules.{judge}
-use Rattle.validate_chunk.proofs.ChunkCounts.{adds-points, adds-surface, in-order, unlisted}
+use Rattle.validate_chunk.proofs.ChunkCounts.{adds-points, adds-surface, adds-layer, in-order, unlisted}
 use Rattle.validate_chunk.proofs.chunk.lwo2_chunk.Statement.{statement}
 use Rattle.validate_chunk.proofs.chunk.lwo2_chunk.Tie as tie
 
@@ -29,7 +29,13 @@ returns-5 c = rw (c .before .before .if5 .taken) (in-order (adds-surface _) (c .
 
 returns-6 : tie.Need-returns-6
 unfolding judge number
-returns-6 c = rw (ne-eqb _ _ (c .before .before .before .before .if1 .left), ne-eqb _ _ (c .before .before .before .if2 .left), ne-eqb _ _ (c .before .before .if3 .left), ne-eqb _ _ (c .before .if4 .left), ne-eqb _ _ (c .if5 .left)) unlisted
+returns-6 c = rw (c .before .before .if6 .taken) (in-order adds-layer (c .before .layer-body .ensures) (c .of-checked2 .ensures))
+
+returns-7 : tie.Need-returns-7
+unfolding judge number
+returns-7 c =
+    rw (ne-eqb _ _ (c .before .before .before .before .before .if1 .left), ne-eqb _ _ (c .before .before .before .before .if2 .left), ne-eqb _ _ (c .before .before .before .if3 .left), ne-eqb _ _ (c .before .before .if4 .left), ne-eqb _ _ (c .before .if5 .left), ne-eqb _ _ (c .if6 .left))
+    unlisted
 
 pub lwo2-chunk-spec : {M : Type 1} → statement M
 lwo2-chunk-spec =
@@ -47,4 +53,7 @@ lwo2-chunk-spec =
     (λ c κs. search needs)
     (λ c κs. search needs)
     returns-5
-    returns-6)
+    (λ c κs. search needs)
+    (λ c κs. search needs)
+    returns-6
+    returns-7)

@@ -3,8 +3,7 @@ use mathlib.Core.Path.{sym, _∙_}
 use borrow.Author.Tests.{not-true, not-false}
 use borrow.Author.Needs.{needs}
 use Rattle.format.specs.Bodies.{polygonsBody}
-use Rattle.format.proofs.ReaderSteps.{off, cut, good, bad, faulty}
-use Rattle.wire.proofs.FirstItem.{after-item}
+use Rattle.format.proofs.ReaderSteps.{off, cut, good, bad, faulty, judged-on}
 use Rattle.validate_polygons.proofs.polygons.polygons_body.Statement.{statement}
 use Rattle.validate_polygons.proofs.polygons.polygons_body.Tie as tie
 
@@ -25,7 +24,7 @@ returns-3 c =
     let i = c .before .before in
     let u = i .before .before .before in
     let w = rw (u .t .given .1) at (u .before .before .u4 .ensures) in
-    after-item _ (good _ _ (w .says) (sym (i .before .polygon-type .ensures) ∙ not-false _ (i .if1 .left)))
+    judged-on _ (good _ _ (w .says) (sym (i .before .polygon-type .ensures) ∙ not-false _ (i .if1 .left)))
     (rw (c .before .polygon-kind .ensures) at (c .entries .ensures))
 
 pub polygons-body-spec : {M : Type 1} → statement M

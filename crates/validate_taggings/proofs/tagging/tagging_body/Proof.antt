@@ -5,8 +5,7 @@ use borrow.Author.Needs.{needs}
 use Rattle.format.specs.Bodies.{tagging, taggingBody}
 use Rattle.format.specs.Contracts.{nothing}
 use Rattle.format.specs.Bytes.{number}
-use Rattle.format.proofs.ReaderSteps.{off, faulty}
-use Rattle.wire.proofs.FirstItem.{after-item, rest-unjudged}
+use Rattle.format.proofs.ReaderSteps.{off, faulty, judged-on, rest-unjudged}
 use Rattle.validate_taggings.proofs.tagging.tagging_body.Statement.{statement}
 use Rattle.validate_taggings.proofs.tagging.tagging_body.Tie as tie
 
@@ -19,14 +18,14 @@ unfolding taggingBody number
 returns-2 c =
     let u = c .before .before .before in
     let w = rw (u .t .given .1) at (u .before .before .u4 .ensures) in
-    after-item _ (w .says) (rw (c .before .if1 .taken) (c .pairs .ensures))
+    judged-on _ (w .says) (rw (c .before .if1 .taken) (c .pairs .ensures))
 
 returns-3 : tie.Need-returns-3
 unfolding taggingBody number
 returns-3 c =
     let u = c .before .before in
     let w = rw (u .t .given .1) at (u .before .before .u4 .ensures) in
-    after-item _ (w .says) (rw (ne-eqb _ _ (c .if1 .left)) (rest-unjudged [] (tagging _) nothing))
+    judged-on _ (w .says) (rw (ne-eqb _ _ (c .if1 .left)) (rest-unjudged [] (tagging _) nothing))
 
 pub tagging-body-spec : {M : Type 1} → statement M
 tagging-body-spec =
