@@ -5,6 +5,7 @@ use std::fs::{self, Permissions};
 use std::os::unix::fs::PermissionsExt;
 use std::path::{Path, PathBuf};
 use std::process::Command;
+use std::sync::{Mutex, MutexGuard, PoisonError};
 
 /// What the script printed and told, and its exit status.
 #[derive(Debug, PartialEq)]
@@ -14,18 +15,26 @@ struct Done {
     status: Option<i32>,
 }
 
-struct Repository(PathBuf);
+/// The tests go one after another: a program that was just written cannot be started while a child
+/// of another test, which has not begun its own program yet, has it open.
+static TURN: Mutex<()> = Mutex::new(());
+
+struct Repository {
+    root: PathBuf,
+    _turn: MutexGuard<'static, ()>,
+}
 
 impl Repository {
     /// The crate lwo needs the crate near, which needs far; the crate other is needed by none.
     fn new(name: &str) -> Repository {
+        let turn = TURN.lock().unwrap_or_else(PoisonError::into_inner);
         let root = Path::new(env!("CARGO_TARGET_TMPDIR"))
             .join("library")
             .join(name);
         if root.exists() {
             fs::remove_dir_all(&root).expect("an old folder goes");
         }
-        let repository = Repository(root);
+        let repository = Repository { root, _turn: turn };
         repository.put("crates.txt", "far:\nnear: far\nother: near\nlwo: near\n");
         for source in [
             "lwo/src",
@@ -46,21 +55,21 @@ impl Repository {
             "#!/bin/sh\necho \"$@\" >>called\nmkdir -p target/staticlib\necho built >target/staticlib/liblwo.a\n",
         );
         for program in ["host/library", "bin/rt"] {
-            let program = repository.0.join(program);
+            let program = repository.root.join(program);
             fs::set_permissions(program, Permissions::from_mode(0o755)).expect("permissions");
         }
         repository
     }
 
     fn put(&self, name: &str, content: &str) {
-        let path = self.0.join(name);
+        let path = self.root.join(name);
         fs::create_dir_all(path.parent().expect("a folder")).expect("a folder");
         fs::write(path, content).expect(name);
     }
 
     fn run(&self, word: Option<&str>) -> Command {
-        let mut command = Command::new(self.0.join("host/library"));
-        let path = format!("{}:/usr/bin:/bin", self.0.join("bin").display());
+        let mut command = Command::new(self.root.join("host/library"));
+        let path = format!("{}:/usr/bin:/bin", self.root.join("bin").display());
         command
             .args(word)
             .env("PATH", path)
@@ -71,9 +80,9 @@ impl Repository {
     /// How often rt has been called, after the script was run and printed the library's path.
     fn calls(&self) -> usize {
         let done = done(&mut self.run(None));
-        let library = self.0.join("target/staticlib/liblwo.a");
+        let library = self.root.join("target/staticlib/liblwo.a");
         assert_eq!(done.printed, format!("{}\n", library.display()), "{done:?}");
-        let called = fs::read_to_string(self.0.join("called")).expect("the calls");
+        let called = fs::read_to_string(self.root.join("called")).expect("the calls");
         assert!(
             called.lines().all(|line| line == "staticlib lwo"),
             "{called}"
@@ -110,9 +119,9 @@ fn it_is_built_anew_when_a_source_or_the_library_changes() {
         assert_eq!(repository.calls(), number, "{name}");
         assert_eq!(repository.calls(), number, "{name}");
     }
-    fs::remove_file(repository.0.join("crates/far/proofs/more")).expect("a file goes");
+    fs::remove_file(repository.root.join("crates/far/proofs/more")).expect("a file goes");
     assert_eq!(repository.calls(), 8);
-    fs::remove_file(repository.0.join("target/staticlib/liblwo.a")).expect("a file goes");
+    fs::remove_file(repository.root.join("target/staticlib/liblwo.a")).expect("a file goes");
     assert_eq!(repository.calls(), 9);
 }
 
@@ -131,7 +140,7 @@ fn a_build_that_failed_is_not_taken_for_done() {
     let repository = Repository::new("fails");
     assert_eq!(repository.calls(), 1);
     repository.put("crates/lwo/src/one", "not proved");
-    let rt = fs::read_to_string(repository.0.join("bin/rt")).expect("rt");
+    let rt = fs::read_to_string(repository.root.join("bin/rt")).expect("rt");
     repository.put("bin/rt", "#!/bin/sh\necho not proved >&2\nexit 1\n");
     for _ in 0..2 {
         let done = done(&mut repository.run(None));
@@ -149,7 +158,7 @@ fn a_build_that_failed_is_not_taken_for_done() {
 #[test]
 fn without_rt_one_sentence_is_told() {
     let repository = Repository::new("no-rt");
-    fs::remove_file(repository.0.join("bin/rt")).expect("rt goes");
+    fs::remove_file(repository.root.join("bin/rt")).expect("rt goes");
     let mut command = repository.run(None);
     let done = done(command.env("PATH", only_what_is_needed(&repository)));
     let told = "The proved library has to be built by rt, Rattle's kit, which is not installed \
@@ -164,7 +173,7 @@ fn without_rt_one_sentence_is_told() {
 
 /// A folder with the script's own tools, so that a machine's rt is not found.
 fn only_what_is_needed(repository: &Repository) -> PathBuf {
-    let folder = repository.0.join("tools");
+    let folder = repository.root.join("tools");
     fs::create_dir_all(&folder).expect("a folder");
     for tool in [
         "env",
@@ -189,13 +198,13 @@ fn another_library_is_taken_as_it_is() {
     let repository = Repository::new("named");
     repository.put("elsewhere.a", "built elsewhere");
     let other = repository
-        .0
+        .root
         .join("elsewhere.a")
         .canonicalize()
         .expect("a file");
     let found = done(repository.run(None).env("LWO_LIBRARY", &other));
     assert_eq!(found.printed, format!("{}\n", other.display()), "{found:?}");
-    assert!(!repository.0.join("called").exists());
+    assert!(!repository.root.join("called").exists());
     let missing = done(
         repository
             .run(None)
@@ -214,11 +223,11 @@ fn its_sources_are_named() {
     let repository = Repository::new("sources");
     let done = done(&mut repository.run(Some("--sources")));
     let named = ["crates.txt", "crates/lwo", "crates/near", "crates/far"];
-    let root = repository.0.canonicalize().expect("a folder");
+    let root = repository.root.canonicalize().expect("a folder");
     let lines: Vec<String> = named
         .iter()
         .map(|name| format!("{}\n", root.join(name).display()))
         .collect();
     assert_eq!(done.printed, lines.concat(), "{done:?}");
-    assert!(!repository.0.join("called").exists());
+    assert!(!repository.root.join("called").exists());
 }
