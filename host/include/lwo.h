@@ -2,9 +2,10 @@
  * Reads LightWave object files, LWOB and LWO2, into lent tables, and writes a
  * mesh as one canonical LWO2 file.
  *
- * Read are points, faces, patches, names and base surface values. Not read are
- * curves, vertex maps, clips, envelopes, textures beyond their nesting, and
- * layers.
+ * Read are points, faces, patches, names and base surface values. The layers of an
+ * LWO2 file are judged and not kept: its mesh has the points and polygons of all of
+ * them. Not read are curves, vertex maps, clips, envelopes, and textures beyond
+ * their nesting.
  *
  * Both functions answer whatever bytes and numbers they are lent, and keep
  * nothing after they have returned. They allocate no memory and have no state,
@@ -96,7 +97,7 @@ uint32_t lwo_version(void);
 /*
  * The stack that a call of either function takes at most, in bytes; it does not
  * grow with the file. Measured over generated files of every kind up to the
- * longest: lwo_read took 1,496 bytes and lwo_write 3,528, most of them for the
+ * longest: lwo_read took 1,512 bytes and lwo_write 3,528, most of them for the
  * dynamic linker, which looks up memcpy where it is called for the first time.
  */
 #define LWO_STACK_BYTES 16384
@@ -139,11 +140,13 @@ uint32_t lwo_version(void);
 #define LWO_FORM_LENGTH 3    /* FORM length is not file length less 8 */
 #define LWO_CHUNK 4          /* header cut, tag byte outside 32..126, length past
                                 the parent's end, pad byte missing or not zero */
-#define LWO_ORDER 5          /* something that must come earlier is missing, or a
-                                single chunk comes twice */
+#define LWO_ORDER 5          /* something that must come earlier is missing (in
+                                LWO2 after the latest LAYR: PNTS for POLS, POLS
+                                for PTAG), or a single chunk comes twice */
 #define LWO_BODY 6           /* wrong body length (bytes left over; LWOB PNTS over
                                 65,536 points) */
-#define LWO_NOT_FINITE 7     /* coordinate or level not finite */
+#define LWO_NOT_FINITE 7     /* coordinate, of a point or a layer's pivot, or level
+                                not finite */
 #define LWO_VERTEX_COUNT 8   /* vertex count not allowed: LWOB has 1 to 200, LWO2
                                 1 to 1,023 */
 #define LWO_VERTEX_NUMBER 9  /* vertex number not below the latest point list's

@@ -140,8 +140,8 @@ fn a_few() -> Tables {
 mod tests {
     use super::*;
 
-    /// All short targeted files are there, and those at the bounds of a polygon's
-    /// vertices and of a name.
+    /// All short targeted files are there, all that must be accepted, and those
+    /// at the bounds of a polygon's vertices and of a name.
     #[test]
     fn the_fixed_files_are_all_there() {
         let list = fixed();
@@ -151,6 +151,7 @@ mod tests {
         let targeted = targeted.iter().filter(|one| short(&one.file)).count();
         assert_eq!(named("targeted-"), targeted);
         assert!(targeted > 4_000, "{targeted}");
+        assert_eq!(named("accepted-"), cases::accepted::accepted().len());
         assert_eq!(named("reading-"), 84);
         for bound in [
             "boundary-lwob-face-of-200",

@@ -13,6 +13,7 @@ pub mod boundary;
 pub mod files;
 pub mod floats;
 pub mod insert;
+pub mod layer;
 pub mod lwo2;
 pub mod lwob;
 pub mod meshes;

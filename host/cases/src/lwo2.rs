@@ -2,6 +2,7 @@
 
 use crate::assemble::{chunk, f4, join, string, sub_chunk, u2, vx, vx_long, Kind, Tag};
 use crate::floats::finite;
+use crate::layer::Layer;
 use crate::names;
 use crate::plain::{PlainRecord, MISSING_COLOUR};
 use crate::random::Random;
@@ -23,20 +24,61 @@ struct State {
     names: bool,
 }
 
-/// A random valid LWO2 file: several PNTS, POLS and PTAG in any order that the
-/// rules allow.
+/// A random valid LWO2 file: layer after layer, or several PNTS, POLS, PTAG and
+/// LAYR in any order that the rules allow.
 pub fn valid(random: &mut Random) -> Valid {
     let most = random.index(7);
     let mut draft = Draft::new(Kind::Lwo2, names::listed(random, most));
     let mut state = State::default();
-    for _ in 0..random.between(0, 18) {
-        add_any(random, &mut draft, &mut state);
+    if random.once_in(3) {
+        add_layers(random, &mut draft, &mut state);
+    } else {
+        for _ in 0..random.between(0, 18) {
+            add_any(random, &mut draft, &mut state);
+        }
     }
     draft.finish(state.names)
 }
 
+/// As modellers write it: each layer has its points, polygons and taggings, or
+/// none; what is the file's stands before, between and after the layers.
+fn add_layers(random: &mut Random, draft: &mut Draft, state: &mut State) {
+    for _ in 0..random.between(1, 4) {
+        add_outside(random, draft, state);
+        add_layer(random, draft, state);
+        for _ in 0..random.below(8) {
+            add_inside(random, draft, state);
+        }
+    }
+    add_outside(random, draft, state);
+}
+
+/// Points, their polygons, and what those are tagged with.
+fn add_inside(random: &mut Random, draft: &mut Draft, state: &mut State) {
+    match state.polygons {
+        Some(polygons) if random.once_in(2) => {
+            add_tagging(random, draft, state, polygons);
+            add_other_tagging(random, draft);
+        }
+        _ if random.once_in(6) => add_points(random, draft, state),
+        _ => add_list(random, draft, state),
+    }
+}
+
+/// The names, once, surfaces, and what is skipped.
+fn add_outside(random: &mut Random, draft: &mut Draft, state: &mut State) {
+    for _ in 0..random.below(3) {
+        match random.below(4) {
+            0 => draft.add_unlisted(random),
+            1 => add_surf(random, draft),
+            _ if !state.names => add_names(draft, state),
+            _ => add_surf(random, draft),
+        }
+    }
+}
+
 fn add_any(random: &mut Random, draft: &mut Draft, state: &mut State) {
-    match random.below(12) {
+    match random.below(13) {
         0 => draft.add_unlisted(random),
         1 | 2 => add_surf(random, draft),
         3 => add_points(random, draft, state),
@@ -46,11 +88,34 @@ fn add_any(random: &mut Random, draft: &mut Draft, state: &mut State) {
             Some(polygons) => add_tagging(random, draft, state, polygons),
             None => draft.add_unlisted(random),
         },
-        _ => match state.points {
-            Some(points) => add_polygons(random, draft, state, points),
-            None => add_points(random, draft, state),
-        },
+        10 => add_layer(random, draft, state),
+        _ => add_list(random, draft, state),
     }
+}
+
+/// Polygons, or the points that they need first.
+fn add_list(random: &mut Random, draft: &mut Draft, state: &mut State) {
+    match state.points {
+        Some(points) => add_polygons(random, draft, state, points),
+        None => add_points(random, draft, state),
+    }
+}
+
+/// A LAYR with any numbers, name and parent. It "empties the latest point and
+/// polygon lists"; the names are the file's.
+fn add_layer(random: &mut Random, draft: &mut Draft, state: &mut State) {
+    let edges = [0, 0, 1, 2, 256, u16::MAX];
+    let number = |random: &mut Random| *random.pick(&edges);
+    let layer = Layer {
+        number: number(random),
+        flags: number(random),
+        pivot: [0; 3].map(|_: u32| finite(random)),
+        name: draft.some_name(random),
+        parent: random.once_in(2).then(|| number(random)),
+    };
+    state.points = None;
+    state.polygons = None;
+    draft.add(layer.chunk());
 }
 
 /// "PNTS: a new latest point list each time."
@@ -167,9 +232,9 @@ const PASSED: [&Tag; 12] = [
 ];
 
 fn add_surf(random: &mut Random, draft: &mut Draft) {
-    let name = draft.surf_name(random);
+    let name = draft.some_name(random);
     let source = match random.below(4) {
-        0 => draft.surf_name(random),
+        0 => draft.some_name(random),
         _ => Vec::new(),
     };
     let mut subs: Vec<Sub> = Vec::new();

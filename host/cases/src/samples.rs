@@ -1,9 +1,8 @@
 //! The files of the folder `samples`, which people can try. The example program of the same
 //! name writes them; a test sees that the folder holds just these bytes.
 
-use crate::assemble::{
-    chunk, f4, form, i2, join, string, sub_chunk, u2, u4, vx, vx_long, Kind, Tag,
-};
+use crate::assemble::{chunk, f4, form, i2, join, string, sub_chunk, u2, vx, vx_long, Kind, Tag};
+use crate::layer::Layer;
 
 /// All samples, by the names that they have in the folder.
 pub fn samples() -> Vec<(&'static str, Vec<u8>)> {
@@ -15,6 +14,7 @@ pub fn samples() -> Vec<(&'static str, Vec<u8>)> {
         ("rosette.lwo", rosette()),
         ("saddle.lwo", saddle()),
         ("shelf.lwo", shelf()),
+        ("stall.lwo", stall()),
     ]
 }
 
@@ -126,8 +126,9 @@ fn rosette() -> Vec<u8> {
     form(Kind::Lwob, &join(&chunks))
 }
 
-/// LWO2: a chest in two point lists. The body is a box of six faces, the lid a patch whose vertex
-/// numbers count from the second list. A layer comes before each list and is skipped.
+/// LWO2: a chest in two layers, each with a point list. The body is a box of six faces, the lid a
+/// patch whose vertex numbers count from the second list. The body's layer is the parent of the
+/// lid's.
 fn chest() -> Vec<u8> {
     let body = [
         [0.0, 0.0, 0.0],
@@ -158,12 +159,12 @@ fn chest() -> Vec<u8> {
     let body_tags = [(0, 0), (1, 0), (2, 0), (3, 0), (4, 0), (5, 0), (2, 1)];
     let chunks = [
         chunk(b"TAGS", &strings(&[b"Walnut", b"Brass", b"Felt"])),
-        chunk(b"LAYR", &layer(0, b"Body")),
+        layer(0, b"Body", None),
         chunk(b"PNTS", &points(&body)),
         chunk(b"POLS", &lwo2_polygons(b"FACE", &sides)),
         chunk(b"PTAG", &taggings(&body_tags)),
         chunk(b"PTAG", &parts),
-        chunk(b"LAYR", &layer(1, b"Lid")),
+        layer(1, b"Lid", Some(0)),
         chunk(b"PNTS", &points(&lid)),
         chunk(b"POLS", &lwo2_polygons(b"PTCH", &[&[0, 3, 2, 1]])),
         chunk(b"PTAG", &taggings(&[(0, 0)])),
@@ -250,6 +251,34 @@ fn shelf() -> Vec<u8> {
     form(Kind::Lwo2, &join(&chunks))
 }
 
+/// LWO2: a stall with a counter and an awning, each in a layer, from a program that leaves out the
+/// points of the awning. Its face is not to have those of the counter: refused 5 at 230, where the
+/// awning's POLS begins.
+fn stall() -> Vec<u8> {
+    let counter = [
+        [0.0, 0.9, 0.0],
+        [2.0, 0.9, 0.0],
+        [2.0, 0.9, 0.5],
+        [0.0, 0.9, 0.5],
+        [0.0, 0.0, 0.0],
+        [2.0, 0.0, 0.0],
+    ];
+    let chunks = [
+        chunk(b"TAGS", &strings(&[b"Pine", b"Canvas"])),
+        layer(0, b"Counter", None),
+        chunk(b"PNTS", &points(&counter)),
+        chunk(
+            b"POLS",
+            &lwo2_polygons(b"FACE", &[&[0, 3, 2, 1], &[0, 1, 5, 4]]),
+        ),
+        chunk(b"PTAG", &taggings(&[(0, 0), (1, 0)])),
+        layer(1, b"Awning", None),
+        chunk(b"POLS", &lwo2_polygons(b"FACE", &[&[0, 1, 2, 3]])),
+        chunk(b"PTAG", &taggings(&[(0, 1)])),
+    ];
+    form(Kind::Lwo2, &join(&chunks))
+}
+
 /// Seen from both sides, with a picture of the grain in a block.
 fn walnut() -> Vec<u8> {
     let header = [
@@ -329,8 +358,12 @@ fn taggings(pairs: &[(u32, u16)]) -> Vec<u8> {
     body
 }
 
-/// Number, flags, pivot and name of a layer.
-fn layer(number: u16, name: &[u8]) -> Vec<u8> {
-    let pivot = join(&[u4(0), u4(0), u4(0)]);
-    join(&[u2(number), u2(0), pivot, string(name)])
+/// A layer, whose pivot is the origin.
+fn layer(number: u16, name: &[u8], parent: Option<u16>) -> Vec<u8> {
+    Layer {
+        number,
+        parent,
+        ..Layer::named(name)
+    }
+    .chunk()
 }

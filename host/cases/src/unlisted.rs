@@ -5,11 +5,11 @@
 use crate::assemble::{chunk, sub_chunk, Kind, Tag};
 use crate::random::Random;
 
-/// The tags that are listed at the top level.
+/// The tags that are listed at the top level, LWO2's LAYR by request #103.
 pub fn listed_tags(kind: Kind) -> &'static [&'static Tag] {
     match kind {
         Kind::Lwob => &[b"PNTS", b"SRFS", b"POLS", b"PCHS", b"SURF"],
-        Kind::Lwo2 => &[b"PNTS", b"TAGS", b"POLS", b"PTAG", b"SURF"],
+        Kind::Lwo2 => &[b"PNTS", b"TAGS", b"POLS", b"PTAG", b"SURF", b"LAYR"],
     }
 }
 
@@ -70,4 +70,28 @@ pub fn any_body(random: &mut Random, most: u64) -> Vec<u8> {
         random.between(0, most)
     };
     random.bytes(length as usize)
+}
+
+#[cfg(test)]
+mod tests {
+    use super::*;
+    use std::collections::HashSet;
+
+    /// Unlisted chunks have the tags that only the other kind lists, and none
+    /// that their own kind does: LAYR is one of them in LWOB alone.
+    #[test]
+    fn the_other_kind_s_tags_are_unlisted() {
+        for (kind, other) in [(Kind::Lwob, Kind::Lwo2), (Kind::Lwo2, Kind::Lwob)] {
+            let random = &mut Random::new(1);
+            let tags: HashSet<Tag> = (0..2_000).map(|_| tag(random, kind)).collect();
+            for own in listed_tags(kind) {
+                assert!(!tags.contains(*own), "{own:?}");
+            }
+            for only in listed_tags(other) {
+                let listed = listed_tags(kind).contains(only);
+                assert!(listed || tags.contains(*only), "{only:?}");
+            }
+            assert_eq!(tags.contains(b"LAYR"), kind == Kind::Lwob);
+        }
+    }
 }

@@ -88,8 +88,9 @@ impl Draft {
         }
     }
 
-    /// A name for a SURF: mostly a listed one, else any, be it empty or long.
-    pub fn surf_name(&self, random: &mut Random) -> Vec<u8> {
+    /// A name for a SURF or a layer: mostly a listed one, else any, be it empty
+    /// or long.
+    pub fn some_name(&self, random: &mut Random) -> Vec<u8> {
         match random.below(10) {
             0 => Vec::new(),
             1 => {

@@ -6,7 +6,7 @@ use cases::insert::{boundaries, chunk_spans, with_unlisted};
 use cases::mutate::mutated;
 use cases::random::Random;
 use cases::valid::valid;
-use cases::{boundary, targeted};
+use cases::{accepted, boundary, targeted};
 
 use crate::damage::damaged;
 use crate::hexadecimal;
@@ -30,12 +30,16 @@ fn named(name: impl Into<String>, file: Vec<u8>) -> Named {
     }
 }
 
-/// The files that are the same for every seed: every targeted file, the files
-/// at the program's bounds, the example of every reading, and the sample.
+/// The files that are the same for every seed: every targeted file and every
+/// one that must be accepted, the files at the program's bounds, the example of
+/// every reading, and the sample.
 pub fn fixed() -> Vec<Named> {
     let mut list = Vec::new();
     for one in targeted::targeted() {
         list.push(named(format!("targeted {}", one.name), one.file));
+    }
+    for one in accepted::accepted() {
+        list.push(named(format!("accepted {}", one.name), one.file));
     }
     for one in boundary::small() {
         list.push(named(format!("bound {}", one.name), one.file));
@@ -147,6 +151,7 @@ mod tests {
         let names: Vec<String> = fixed().into_iter().map(|one| one.name).collect();
         let of = |word: &str| names.iter().filter(|name| name.starts_with(word)).count();
         assert_eq!(of("targeted "), targeted::targeted().len());
+        assert_eq!(of("accepted "), accepted::accepted().len());
         assert_eq!(of("bound "), boundary::small().len());
         assert_eq!(of("reading "), 84);
         assert_eq!(of("sample "), 1);

@@ -1,5 +1,6 @@
 //! The files that the program is run on, each with a name.
 
+use cases::accepted::accepted;
 use cases::boundary;
 use cases::files::files;
 use cases::targeted::targeted;
@@ -24,6 +25,8 @@ pub fn fixed() -> impl Iterator<Item = Input> {
     list.extend(bounds.map(|one| (format!("boundary {}", one.name), one.file)));
     let targets = targeted().into_iter();
     list.extend(targets.map(|one| (format!("targeted {}", one.name), one.file)));
+    let good = accepted().into_iter();
+    list.extend(good.map(|one| (format!("accepted {}", one.name), one.file)));
     list.into_iter()
 }
 

@@ -13,7 +13,8 @@ pub enum RefusalKind {
     FormLength = 3,
     /// The header or the pad byte of a chunk is damaged.
     Chunk = 4,
-    /// Something that must come earlier is missing, or a single chunk comes twice.
+    /// Something that must come earlier, in LWO2 in the same layer, is missing; or a single chunk
+    /// comes twice.
     Order = 5,
     /// The body of a chunk has the wrong length.
     Body = 6,

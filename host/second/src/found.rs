@@ -39,9 +39,9 @@ pub struct Found<'a> {
     /// The number of each name, from 0.
     numbers: HashMap<&'a [u8], u32>,
     pub surfs: Vec<Surf<'a>>,
-    /// The latest PNTS, if there is one.
+    /// The latest PNTS, if there is one; in LWO2, if the layer has one.
     pub latest_points: Option<Latest>,
-    /// The latest POLS, if there is one (LWO2).
+    /// The latest POLS, if the layer has one (LWO2).
     pub latest_polygons: Option<Latest>,
     /// Whether TAGS (LWO2) or SRFS (LWOB) has come, be it empty.
     pub names_listed: bool,
@@ -112,6 +112,13 @@ impl<'a> Found<'a> {
     /// file's polygon of this number is set.
     pub fn set_surface(&mut self, polygon: u32, surface: u32) {
         self.polygons[polygon as usize * POLYGON_WORDS + 2] = surface;
+    }
+
+    /// #103: LAYR "empties the latest point and polygon lists". What has been
+    /// found stays, and so do the names: TAGS and SURF are the file's.
+    pub fn start_layer(&mut self) {
+        self.latest_points = None;
+        self.latest_polygons = None;
     }
 
     /// One record for each name: "the last SURF of a name stands, for the name

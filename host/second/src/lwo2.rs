@@ -1,4 +1,4 @@
-//! "LWO2, listed tags" of document 01.
+//! "LWO2, listed tags" of document 01, and LAYR of request #103.
 
 use crate::chunks::{sub_chunks, Chunk};
 use crate::found::{Found, Latest, FACE, PATCH};
@@ -14,6 +14,7 @@ pub fn take<'a>(file: &'a [u8], chunk: &Chunk, found: &mut Found<'a>) -> Result<
         b"POLS" => take_polygons(file, chunk, found),
         b"PTAG" => take_tagging(file, chunk, found),
         b"SURF" => take_surface(file, chunk, found),
+        b"LAYR" => take_layer(file, chunk, found),
         _ => {
             found.skipped += 1;
             Ok(())
@@ -39,7 +40,8 @@ fn take_names<'a>(file: &'a [u8], chunk: &Chunk, found: &mut Found<'a>) -> Resul
 
 /// "POLS: type, then entries: U2 with the count in its low ten bits (high six
 /// not judged), then VX vertices into the latest PNTS. POLS needs an earlier
-/// PNTS." A vertex is stored counted from the file's first point.
+/// PNTS", which since #103 has to have come after the last LAYR. A vertex is
+/// stored counted from the file's first point, whatever layer that is in.
 fn take_polygons<'a>(file: &'a [u8], chunk: &Chunk, found: &mut Found<'a>) -> Result<(), Flaw> {
     let Some(points) = found.latest_points else {
         return Err(chunk.flaw(Fault::PointsMissing));
@@ -91,7 +93,8 @@ fn vertex_count(cursor: &mut Cursor) -> Result<u32, Flaw> {
 
 /// "PTAG: needs an earlier POLS (5). Type SURF: pairs of polygon (VX) and tag
 /// (U2, from 0) into the latest POLS and the TAGS so far. ... Other types:
-/// four type bytes are required and the rest isn't judged."
+/// four type bytes are required and the rest isn't judged." #103: "PTAG with no
+/// POLS since" the last LAYR is 5 too, whatever its type.
 fn take_tagging<'a>(file: &'a [u8], chunk: &Chunk, found: &mut Found<'a>) -> Result<(), Flaw> {
     let Some(polygons) = found.latest_polygons else {
         return Err(chunk.flaw(Fault::PolygonsMissing));
@@ -176,12 +179,17 @@ fn level(file: &[u8], sub: &Chunk) -> Result<u32, Flaw> {
     Ok(level)
 }
 
-/// "Bodies are used up exactly; the VX is dropped." Bytes left over are the
-/// sub-chunk's own fault, seen after its items.
+/// "Bodies are used up exactly; the VX is dropped."
 fn pass_envelope(sub: &Chunk, cursor: &mut Cursor) -> Result<(), Flaw> {
     cursor.vx()?;
+    must_be_used_up(sub, cursor)
+}
+
+/// Bytes left over are the fault of the chunk or sub-chunk itself, seen after
+/// its items.
+fn must_be_used_up(chunk: &Chunk, cursor: &Cursor) -> Result<(), Flaw> {
     if !cursor.is_done() {
-        return Err(sub.flaw(Fault::BytesLeftOver));
+        return Err(chunk.flaw(Fault::BytesLeftOver));
     }
     Ok(())
 }
@@ -232,4 +240,27 @@ fn pass_level_four<'a>(file: &'a [u8], rest: &Cursor<'a>) -> Result<(), Flaw> {
         sub?;
     }
     Ok(())
+}
+
+/// "List LAYR for LWO2: number U2, flags U2, pivot of three finite floats (7),
+/// name, and a parent U2 or nothing after it". 13 is "in TAGS or SRFS only", so
+/// the name may have any length. "The mesh doesn't keep the layer."
+fn take_layer<'a>(file: &'a [u8], chunk: &Chunk, found: &mut Found<'a>) -> Result<(), Flaw> {
+    let mut cursor = chunk.cursor(file);
+    let _number = cursor.u2()?;
+    let _flags = cursor.u2()?;
+    let _pivot = [cursor.float()?, cursor.float()?, cursor.float()?];
+    let _name = cursor.string()?;
+    pass_parent(chunk, &mut cursor)?;
+    found.start_layer();
+    Ok(())
+}
+
+/// "a parent U2 or nothing after it (a single byte is 19)". What follows the
+/// parent is left over.
+fn pass_parent(layer: &Chunk, cursor: &mut Cursor) -> Result<(), Flaw> {
+    if !cursor.is_done() {
+        cursor.u2()?;
+    }
+    must_be_used_up(layer, cursor)
 }

@@ -30,11 +30,12 @@ pub enum Fault {
     PadMissing,
     /// 4: "pad byte ... not zero".
     PadNotZero,
-    /// 5: "something that must come earlier is missing", here PNTS.
+    /// 5: "something that must come earlier is missing", here PNTS, in LWO2
+    /// one since the last LAYR.
     PointsMissing,
     /// 5: the same, here LWOB's SRFS.
     NamesMissing,
-    /// 5: the same, here LWO2's POLS before PTAG.
+    /// 5: the same, here LWO2's POLS before PTAG, one since the last LAYR.
     PolygonsMissing,
     /// 5: "a single chunk comes twice".
     ChunkTwice,

@@ -16,6 +16,7 @@ pub enum Role {
     Tag,
     Float,
     Envelope,
+    Number,
 }
 
 /// One item of a body.

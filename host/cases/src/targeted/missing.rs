@@ -1,7 +1,7 @@
 //! 5: "something that must come earlier is missing, or a single chunk comes
 //! twice".
 
-use super::settings::{names, points, two_faces, Setting};
+use super::settings::{layer, names, points, two_faces, Setting};
 use super::{Catalogue, Fault};
 use crate::assemble::{chunk, join, u2, vx, Kind};
 use crate::lwob::entry;
@@ -10,6 +10,8 @@ pub fn add(catalogue: &mut Catalogue) {
     add_lwob_twice(catalogue);
     add_lwob_polygons(catalogue);
     add_lwo2(catalogue);
+    add_since_layer(catalogue);
+    add_lwob_layer(catalogue);
 }
 
 /// The chunk itself is at fault, so its header is.
@@ -71,25 +73,80 @@ fn add_lwo2(catalogue: &mut Catalogue) {
     catalogue.add_chunk("tags-after-empty", &empty_names, &names(b"TAGS"), fault());
 
     let only_names = none.clone().with(names(b"TAGS"));
-    for (name, body) in [("empty", &b""[..]), ("type", b"FACE"), ("curv", b"CURV")] {
-        let polygons = chunk(b"POLS", body);
+    for (name, polygons) in some_polygons() {
         let name = format!("pols-{name}-without-pnts");
         catalogue.add_chunk(&name, &only_names, &polygons, fault());
     }
     catalogue.add_chunk("pols-without-pnts", &none, &two_faces(), fault());
 
-    let pair = join(&[&b"SURF"[..], &vx(0), &u2(0)]);
-    for (name, body) in [
-        ("empty", &b""[..]),
-        ("cut-type", b"SU"),
-        ("type", b"SURF"),
-        ("part", b"PART"),
-        ("pair", &pair),
-    ] {
-        let tagging = chunk(b"PTAG", body);
+    for (name, tagging) in some_taggings() {
         let name = format!("ptag-{name}-without-pols");
         catalogue.add_chunk(&name, &ready, &tagging, fault());
     }
     let too_late = join(&[chunk(b"PTAG", b"SURF"), two_faces()]);
     catalogue.add_chunk("pols-too-late", &ready, &too_late, fault());
+}
+
+/// POLS chunks, good or not: 5 is judged before the body.
+fn some_polygons() -> [(&'static str, Vec<u8>); 3] {
+    [("empty", &b""[..]), ("type", b"FACE"), ("curv", b"CURV")]
+        .map(|(name, body)| (name, chunk(b"POLS", body)))
+}
+
+/// PTAG chunks of several types, good or not.
+fn some_taggings() -> [(&'static str, Vec<u8>); 5] {
+    let pair = join(&[&b"SURF"[..], &vx(0), &u2(0)]);
+    [
+        ("empty", &b""[..]),
+        ("cut-type", b"SU"),
+        ("type", b"SURF"),
+        ("part", b"PART"),
+        ("pair", &pair),
+    ]
+    .map(|(name, body)| (name, chunk(b"PTAG", body)))
+}
+
+/// #103: "POLS with no PNTS since it, or PTAG with no POLS since it, is 5",
+/// whatever came before LAYR, which may come several times.
+fn add_since_layer(catalogue: &mut Catalogue) {
+    let first = Setting::empty(Kind::Lwo2).with(layer());
+    let with_points = Setting::lwo2().with(layer());
+    let with_polygons = Setting::lwo2_layer();
+    let in_a_row = Setting::lwo2_layer().with(layer()).with(layer());
+    let whole = with_points.clone().with(points(3)).with(two_faces());
+    let after_whole = whole.with(layer());
+    for (name, before) in [
+        ("first", &first),
+        ("after-pnts", &with_points),
+        ("after-pols", &with_polygons),
+        ("in-a-row", &in_a_row),
+        ("after-a-layer", &after_whole),
+    ] {
+        let full = ("full", two_faces());
+        for (body, polygons) in some_polygons().into_iter().chain([full]) {
+            let name = format!("layer-{name}-pols-{body}");
+            catalogue.add_chunk(&name, before, &polygons, fault());
+        }
+        let with_new_points = before.clone().with(points(3));
+        for (body, tagging) in some_taggings() {
+            let name = format!("layer-{name}-ptag-{body}");
+            catalogue.add_chunk(&name, before, &tagging, fault());
+            let name = format!("{name}-after-new-pnts");
+            catalogue.add_chunk(&name, &with_new_points, &tagging, fault());
+        }
+    }
+    let tags = names(b"TAGS");
+    catalogue.add_chunk("layer-tags-twice", &with_points, &tags, fault());
+}
+
+/// In LWOB LAYR empties nothing: PNTS and SRFS before it still count, and what
+/// was missing is still missing.
+fn add_lwob_layer(catalogue: &mut Catalogue) {
+    let ready = Setting::lwob().with(layer());
+    catalogue.add_chunk("layer-pnts-twice", &ready, &points(1), fault());
+    catalogue.add_chunk("layer-srfs-twice", &ready, &names(b"SRFS"), fault());
+    let only_names = Setting::empty(Kind::Lwob).with(names(b"SRFS"));
+    let without_points = only_names.with(layer());
+    let polygons = chunk(b"POLS", &entry(&[0], 1));
+    catalogue.add_chunk("layer-pols", &without_points, &polygons, fault());
 }

@@ -1,11 +1,13 @@
 //! Targeted files: for every refusal number a file at every place where
 //! document 01 allows it. What each must answer is said here, from that
-//! document and from request #101 of document 02, and worked out by no reader.
+//! document and from requests #101 and #103 of document 02, and worked out by
+//! no reader.
 
 mod body;
 mod forms;
 mod headers;
 mod items;
+mod layers;
 mod missing;
 mod names;
 mod order;
@@ -43,6 +45,7 @@ pub fn targeted() -> Vec<Targeted> {
     polygons::add(&mut catalogue);
     names::add(&mut catalogue);
     surfaces::add(&mut catalogue);
+    layers::add(&mut catalogue);
     order::add(&mut catalogue);
     places::add(&mut catalogue);
     catalogue.list

@@ -40,6 +40,13 @@ fn unfinished() -> Vec<(&'static str, Vec<u8>)> {
     ]
 }
 
+/// The same, and no byte at all, which is no string either where one must be.
+pub fn no_string() -> Vec<(&'static str, Vec<u8>)> {
+    let mut list = unfinished();
+    list.push(("nothing", Vec::new()));
+    list
+}
+
 /// The first, second and fourth string of a list.
 fn add_list_strings(catalogue: &mut Catalogue, kind: Kind) {
     let fronts = [
@@ -110,16 +117,14 @@ fn add_equal_names(catalogue: &mut Catalogue, kind: Kind) {
 /// The name of each SURF, and LWO2's source string. Where no byte of it is
 /// there, its place is the chunk's end.
 fn add_surf_strings(catalogue: &mut Catalogue) {
-    let mut strings = unfinished();
-    strings.push(("nothing", Vec::new()));
     for (kind, which, front) in [
         (Kind::Lwob, "name", Vec::new()),
         (Kind::Lwo2, "name", Vec::new()),
         (Kind::Lwo2, "source", string(b"ab")),
         (Kind::Lwo2, "source-of-empty", string(b"")),
     ] {
-        for (name, bytes) in &strings {
-            let surf = chunk(b"SURF", &join(&[&front[..], bytes]));
+        for (name, bytes) in no_string() {
+            let surf = chunk(b"SURF", &join(&[&front[..], &bytes]));
             let name = format!("surf-{which}-{name}");
             let fault = Fault {
                 number: 20,
@@ -132,8 +137,6 @@ fn add_surf_strings(catalogue: &mut Catalogue) {
 
 /// The string that each block header holds, inside its own length.
 fn add_block_strings(catalogue: &mut Catalogue) {
-    let mut strings = unfinished();
-    strings.push(("nothing", Vec::new()));
     let front = surf_front(Kind::Lwo2);
     for (word, tag) in [
         ("imap", b"IMAP"),
@@ -141,8 +144,8 @@ fn add_block_strings(catalogue: &mut Catalogue) {
         ("grad", b"GRAD"),
         ("shdr", b"SHDR"),
     ] {
-        for (name, bytes) in &strings {
-            let block = sub_chunk(b"BLOK", &sub_chunk(tag, bytes));
+        for (name, bytes) in no_string() {
+            let block = sub_chunk(b"BLOK", &sub_chunk(tag, &bytes));
             let behind = sub_chunk(b"SIDE", &[0, 2]);
             let surf = chunk(b"SURF", &join(&[&front[..], &block, &behind]));
             let name = format!("{word}-string-{name}");

@@ -100,6 +100,9 @@ fn add_missing_before_a_chunk(catalogue: &mut Catalogue) {
         ("surf-source", &lwo2, chunk(b"SURF", &string(b"a")), 20),
         ("level", &lwo2, surf(Kind::Lwo2, &[&level]), 19),
         ("block-string", &lwo2, surf(Kind::Lwo2, &[&block]), 20),
+        ("layer-number", &lwo2, chunk(b"LAYR", &[]), 19),
+        ("layer-pivot", &lwo2, chunk(b"LAYR", &[0; 4]), 19),
+        ("layer-name", &lwo2, chunk(b"LAYR", &[0; 16]), 20),
     ];
     let next = chunk(b"NEXT", b"odd");
     for (name, before, short, number) in rows {

@@ -2,6 +2,7 @@
 
 use super::passed_chunk;
 use crate::assemble::{chunk, f4, join, string, u2, vx, Kind};
+use crate::layer::Layer;
 
 /// Good chunks, and the kind of file that they are in.
 #[derive(Clone)]
@@ -54,6 +55,11 @@ impl Setting {
         Setting::lwo2().with(two_faces())
     }
 
+    /// The same, and a new layer after it.
+    pub fn lwo2_layer() -> Setting {
+        Setting::lwo2_polygons().with(layer())
+    }
+
     /// The kind's setting with points and names.
     pub fn ready(kind: Kind) -> Setting {
         match kind {
@@ -78,4 +84,9 @@ pub fn two_faces() -> Vec<u8> {
     let triangle = join(&[u2(3), vx(0), vx(1), vx(2)]);
     let single = join(&[u2(1), vx(2)]);
     chunk(b"POLS", &join(&[&b"FACE"[..], &triangle, &single]))
+}
+
+/// A good LAYR chunk.
+pub fn layer() -> Vec<u8> {
+    Layer::named(b"Lid").chunk()
 }

@@ -76,7 +76,7 @@ fn sentence(file: &Checked, verbose: bool) -> String {
     parts.join(", ")
 }
 
-/// As in `2 LAYR, 1 CRVS`.
+/// As in `2 VMAP, 1 CLIP`.
 fn tags(skipped: &[TagCount]) -> String {
     let words = skipped
         .iter()
@@ -126,14 +126,14 @@ mod tests {
         assert_eq!(sentence(&file, true), "3 points, 1 polygon, 1 name");
         file.counts.skipped = 3;
         file.counts.details = 1;
-        file.skipped = vec![TagCount::new(*b"LAYR", 2), TagCount::new(*b"CRVS", 1)];
+        file.skipped = vec![TagCount::new(*b"VMAP", 2), TagCount::new(*b"CLIP", 1)];
         assert_eq!(
             sentence(&file, false),
             "3 points, 1 polygon, 1 name, 3 chunks skipped, 1 detail not kept",
         );
         assert_eq!(
             sentence(&file, true),
-            "3 points, 1 polygon, 1 name, 3 chunks skipped (2 LAYR, 1 CRVS), 1 detail not kept",
+            "3 points, 1 polygon, 1 name, 3 chunks skipped (2 VMAP, 1 CLIP), 1 detail not kept",
         );
     }
 }

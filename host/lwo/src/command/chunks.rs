@@ -67,9 +67,12 @@ fn walk<const LENGTH: usize>(bytes: &[u8], from: usize) -> impl Iterator<Item = 
 }
 
 /// The top-level tags that are read, by the kind of file; all others are skipped.
-const READ: [(&[u8; 4], [&[u8; 4]; 5]); 2] = [
-    (b"LWOB", [b"PNTS", b"SRFS", b"POLS", b"PCHS", b"SURF"]),
-    (b"LWO2", [b"PNTS", b"TAGS", b"POLS", b"PTAG", b"SURF"]),
+const READ: [(&[u8; 4], &[&[u8; 4]]); 2] = [
+    (b"LWOB", &[b"PNTS", b"SRFS", b"POLS", b"PCHS", b"SURF"]),
+    (
+        b"LWO2",
+        &[b"LAYR", b"PNTS", b"TAGS", b"POLS", b"PTAG", b"SURF"],
+    ),
 ];
 
 /// How many chunks have a tag.
@@ -88,7 +91,7 @@ impl TagCount {
 /// The tags of an accepted file that are skipped, in the order in which they come first.
 pub fn skipped(file: &[u8]) -> Vec<TagCount> {
     let read = READ.iter().find(|(of, _)| of[..] == *kind(file));
-    let read = read.map_or(&[][..], |(_, tags)| &tags[..]);
+    let read = read.map_or(&[][..], |&(_, tags)| tags);
     let mut list: Vec<TagCount> = Vec::new();
     for chunk in chunks(file).filter(|chunk| !read.contains(&&chunk.tag)) {
         match list.iter_mut().find(|one| one.tag == chunk.tag) {

@@ -47,7 +47,7 @@ What is written:
   command that is interrupted takes that file away; one that is killed leaves
   it, and it may be removed.
   Curves, vertex maps, clips, envelopes, textures, smoothing angles and layers
-  are not read, so they are not in OUT.
+  are not kept, so they are not in OUT.
 
 In names of files and surfaces, what cannot be seen is written as in \\n,
 \\u{202e} or \\xe4, and a backslash is doubled.

@@ -227,15 +227,13 @@ static void refuses_to_write(void)
          LWO_NOT_A_MESH);
 }
 
-/* Case l with one byte changed is refused, and no table is changed. */
-static void refuses(size_t byte, uint8_t value, uint64_t number, uint64_t place)
+/* A file is refused, and no table is changed. */
+static void refuses(const uint8_t *file, size_t length, uint64_t number,
+                    uint64_t place)
 {
-    uint8_t file[sizeof CASE_L];
-    memcpy(file, CASE_L, sizeof file);
-    file[byte] = value;
     Tables tables = other_tables();
     Tables before = tables;
-    LwoAnswer answer = read_into(&tables, file, sizeof file);
+    LwoAnswer answer = read_into(&tables, file, length);
     same("the number of a refusal", answer.number, number);
     same("its place", answer.place, place);
     same("its needs and counts",
@@ -245,16 +243,66 @@ static void refuses(size_t byte, uint8_t value, uint64_t number, uint64_t place)
     same_tables(&tables, &before);
 }
 
+/* So is case l with one byte changed. */
+static void refuses_byte(size_t byte, uint8_t value, uint64_t number,
+                         uint64_t place)
+{
+    uint8_t file[sizeof CASE_L];
+    memcpy(file, CASE_L, sizeof file);
+    file[byte] = value;
+    refuses(file, sizeof file, number, place);
+}
+
 static void refuses_to_read(void)
 {
     /* The last vertex, at 86, names a fourth point. */
-    refuses(87, 3, LWO_VERTEX_NUMBER, 86);
+    refuses_byte(87, 3, LWO_VERTEX_NUMBER, 86);
     /* The polygon has a fourth vertex, which would begin where its chunk ends. */
-    refuses(81, 4, LWO_ITEM_CUT, 88);
+    refuses_byte(81, 4, LWO_ITEM_CUT, 88);
     /* The name, at 20, has no zero byte at its end. */
-    refuses(23, 's', LWO_STRING_OPEN, 20);
+    refuses_byte(23, 's', LWO_STRING_OPEN, 20);
     /* The header of PTAG, at 88, has a length past the end of the file. */
-    refuses(95, 9, LWO_CHUNK, 88);
+    refuses_byte(95, 9, LWO_CHUNK, 88);
+}
+
+/* A layer with the name Lid. */
+static const uint8_t LAYER[] = {
+    'L', 'A', 'Y', 'R', 0, 0, 0, 20, 0, 0, 0, 0,
+    0, 0, 0, 0, 0, 0, 0, 0, 0, 0, 0, 0, 'L', 'i', 'd', 0,
+};
+
+/* Case l with a layer put in before the chunk at this offset. */
+typedef struct Layered {
+    uint8_t file[sizeof CASE_L + sizeof LAYER];
+} Layered;
+
+static Layered layered(size_t offset)
+{
+    Layered made;
+    memcpy(made.file, CASE_L, offset);
+    memcpy(made.file + offset, LAYER, sizeof LAYER);
+    memcpy(made.file + offset + sizeof LAYER, CASE_L + offset,
+           sizeof CASE_L - offset);
+    made.file[7] = (uint8_t)(sizeof made.file - 8);
+    return made;
+}
+
+/* A layer before PNTS is not kept, nor counted as skipped. */
+static void reads_a_layer(void)
+{
+    Layered whole = layered(24);
+    Tables tables = other_tables();
+    LwoAnswer answer = read_into(&tables, whole.file, sizeof whole.file);
+    same("a file with a layer", answer.number, LWO_ACCEPTED);
+    same_counts(answer);
+    same_tables(&tables, &MESH_L);
+}
+
+/* The chunk at this offset lacks in its layer what comes before the layer. */
+static void refuses_to_borrow(size_t offset)
+{
+    Layered lacking = layered(offset);
+    refuses(lacking.file, sizeof lacking.file, LWO_ORDER, offset + sizeof LAYER);
 }
 
 int main(void)
@@ -264,6 +312,9 @@ int main(void)
     reads_in_two_calls();
     writes_in_two_calls();
     refuses_to_read();
+    reads_a_layer();
+    refuses_to_borrow(68); /* POLS: points */
+    refuses_to_borrow(88); /* PTAG: polygons */
     refuses_to_write();
     return faults == 0 ? 0 : 1;
 }

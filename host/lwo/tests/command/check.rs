@@ -5,6 +5,8 @@ use std::fs;
 use std::os::unix::ffi::OsStrExt;
 use std::process::Command;
 
+use cases::assemble::{chunk, form, join, Kind};
+
 use crate::help::{folder_with, run, run_with_input, sample, samples, Run};
 
 #[test]
@@ -16,23 +18,35 @@ fn accepted_files_have_one_line_each() {
     let printed = "\
 oak.lwo: accepted, 3 points, 1 polygon, 1 name
 rosette.lwo: accepted, 8 points, 6 polygons, 2 names, 1 chunk skipped, 2 details not kept
-chest.lwo: accepted, 12 points, 7 polygons, 3 names, 2 chunks skipped
+chest.lwo: accepted, 12 points, 7 polygons, 3 names
 ";
     assert_eq!(checked, Run::new(0, printed, ""));
 }
 
 #[test]
 fn skipped_chunks_are_named_when_asked_for() {
-    let checked = run(
-        &samples(),
-        &["check", "-v", "oak.lwo", "rosette.lwo", "chest.lwo"],
-    );
+    let checked = run(&samples(), &["check", "-v", "oak.lwo", "rosette.lwo"]);
     let printed = "\
 oak.lwo: accepted, 3 points, 1 polygon, 1 name
 rosette.lwo: accepted, 8 points, 6 polygons, 2 names, 1 chunk skipped (1 CRVS), 2 details not kept
-chest.lwo: accepted, 12 points, 7 polygons, 3 names, 2 chunks skipped (2 LAYR)
 ";
     assert_eq!(checked, Run::new(0, printed, ""));
+}
+
+/// A layer is read in LWO2, and one of the skipped chunks in LWOB, whatever it holds there.
+#[test]
+fn layers_are_skipped_in_lwob_alone() {
+    let layer = join(&[&[0; 16][..], b"Lid\0"]);
+    for (kind, body, skipped) in [
+        (Kind::Lwo2, &layer[..], ""),
+        (Kind::Lwob, &layer, ", 1 chunk skipped (1 LAYR)"),
+        (Kind::Lwob, b"odd", ", 1 chunk skipped (1 LAYR)"),
+    ] {
+        let file = form(kind, &chunk(b"LAYR", body));
+        let checked = run_with_input(&samples(), &["check", "-v", "-"], &file);
+        let printed = format!("standard input: accepted, 0 points, 0 polygons, 0 names{skipped}\n");
+        assert_eq!(Run::from(checked), Run::new(0, &printed, ""));
+    }
 }
 
 #[test]
@@ -40,14 +54,14 @@ fn a_line_of_json_for_each_file() {
     let words = [
         "check",
         "--json",
-        "chest.lwo",
+        "rosette.lwo",
         "damaged.lwo",
         "no\"ne.lwo",
         "-",
     ];
-    let printed = "{\"file\":\"chest.lwo\",\"accepted\":true,\"points\":12,\"polygons\":7,\
-\"vertices\":28,\"names\":3,\"name_bytes\":15,\"skipped\":2,\"details\":0,\
-\"skipped_tags\":{\"LAYR\":2}}
+    let printed = "{\"file\":\"rosette.lwo\",\"accepted\":true,\"points\":8,\"polygons\":6,\
+\"vertices\":24,\"names\":2,\"name_bytes\":13,\"skipped\":1,\"details\":2,\
+\"skipped_tags\":{\"CRVS\":1}}
 {\"file\":\"damaged.lwo\",\"accepted\":false,\"refused\":{\"number\":9,\"place\":86,\
 \"chunk\":68,\"tag\":\"POLS\",\
 \"meaning\":\"a polygon names a point that the latest point list does not have\",\
@@ -103,6 +117,26 @@ its chunk, or missing; found nothing before the end of DIFF, expected an envelop
         run(&samples(), &["check", "--json", "saddle.lwo"]),
         Run::new(1, printed, "")
     );
+}
+
+/// The face of the second layer has no points there, and does not borrow those of the first.
+#[test]
+fn a_layer_without_points_is_told() {
+    let meaning = "something that must come before this chunk is missing, \
+        or a chunk that may come only once comes twice";
+    let found = "no PNTS before it in its layer (LAYR at 198)";
+    let printed = format!(
+        "stall.lwo: refused 5 at 230 (POLS at 230): {meaning}; found {found}, expected one\n"
+    );
+    let checked = run(&samples(), &["check", "stall.lwo"]);
+    assert_eq!(checked, Run::new(1, &printed, ""));
+    let printed = format!(
+        "{{\"file\":\"stall.lwo\",\"accepted\":false,\"refused\":{{\"number\":5,\"place\":230,\
+         \"chunk\":230,\"tag\":\"POLS\",\"meaning\":\"{meaning}\",\
+         \"found\":\"{found}\",\"expected\":\"one\"}}}}\n"
+    );
+    let checked = run(&samples(), &["check", "--json", "stall.lwo"]);
+    assert_eq!(checked, Run::new(1, &printed, ""));
 }
 
 /// What a file holds cannot end the line, move the cursor or hide a part of it.

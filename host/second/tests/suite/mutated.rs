@@ -5,7 +5,7 @@ use std::collections::BTreeMap;
 
 use cases::random::Random;
 use cases::valid::valid;
-use second::{canonical, is_mesh, listing, read, Answer, Tables};
+use second::{canonical, is_mesh, listing, read, rules, Answer, Tables};
 
 use crate::help::{accepted, filled_room, mutation, needs};
 use crate::places::check_place;
@@ -64,6 +64,28 @@ fn check_refused(seed: u64, file: &[u8], told: &Answer) {
     let line = format!("refused {} at {}\n", told.number, told.place);
     assert_eq!(listing(file), line, "seed {seed}");
     check_place(file, &format!("seed {seed}"));
+}
+
+/// How often each number is told of a chunk with this tag.
+fn numbers_of(tag: &[u8; 4]) -> BTreeMap<u64, u64> {
+    let mut numbers = BTreeMap::new();
+    for file in (0..FILES).map(mutation) {
+        if let Err(refusal) = rules(&file) {
+            if file[refusal.chunk as usize..].starts_with(tag) {
+                *numbers.entry(refusal.number()).or_default() += 1;
+            }
+        }
+    }
+    numbers
+}
+
+/// Every refusal that a LAYR can have comes up, and 4 for its header.
+#[test]
+fn are_refused_for_their_layers() {
+    let numbers = numbers_of(b"LAYR");
+    let told: Vec<u64> = numbers.keys().copied().collect();
+    assert_eq!(told, [4, 6, 7, 19, 20], "{numbers:?}");
+    assert!(numbers.values().all(|&times| times >= 10), "{numbers:?}");
 }
 
 /// Every beginning of a valid file, as it is and with its FORM length put

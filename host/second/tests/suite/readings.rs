@@ -1,9 +1,9 @@
 //! The example lines that show how the documents are read, one file a line:
 //! `LEVEL  FILE IN HEX -> answer   (other: the reading not taken)`.
 //!
-//! The lines of level `base` are document 01 without request #101: they have
-//! 6 where an item is cut or a string is open, and the chunk's place. Those of
-//! level `101` have the numbers and places that are told.
+//! The lines of levels `base` and `103` are without request #101: they have 6
+//! where an item is cut or a string is open, and the chunk's place. Those of
+//! levels `101` and `101,103` have the numbers and places that are told.
 
 use second::{rules, Mesh, Record};
 
@@ -39,8 +39,8 @@ fn differs_in_records_only(example: &Example) -> bool {
     example.other.starts_with("same answer, ")
 }
 
-/// What document 01 without request #101 says of a file: 6 where 19 and 20
-/// stand now, and "the offset of the top-level chunk's tag".
+/// What is said of a file without request #101: 6 where 19 and 20 stand now,
+/// and "the offset of the top-level chunk's tag".
 fn verdict_without_101(file: &[u8]) -> String {
     match rules(file) {
         Ok(_) => String::from("accepted"),
@@ -83,6 +83,13 @@ fn every_base_line() {
 #[test]
 fn every_line_of_101() {
     assert_eq!(check_level("101", verdict), 20);
+}
+
+/// With request #101, and without it.
+#[test]
+fn every_line_of_103() {
+    assert_eq!(check_level("101,103", verdict), 4);
+    assert_eq!(check_level("103", verdict_without_101), 1);
 }
 
 #[test]

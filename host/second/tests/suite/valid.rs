@@ -147,9 +147,17 @@ fn exercise_the_rules() {
         let with_tag = one.parts.chunks.iter().filter(|chunk| &chunk[..4] == tag);
         with_tag.count()
     };
-    for tag in [b"PNTS", b"POLS", b"PTAG"] {
+    for tag in [b"PNTS", b"POLS", b"PTAG", b"LAYR"] {
         let several = |one: &Valid| tags(one, tag) > 1 && &one.parts.file()[8..12] == b"LWO2";
         assert!(count(&several) > 300, "several {tag:?}");
     }
     assert!(count(&|one| tags(one, b"PCHS") > 0) > 100, "PCHS");
+    assert!(count(&|one| whole_layers(one) > 1) > 100, "whole layers");
+}
+
+/// How many LAYR have a tagged list of polygons before the next one.
+fn whole_layers(one: &Valid) -> usize {
+    let tags: Vec<&[u8]> = one.parts.chunks.iter().map(|chunk| &chunk[..4]).collect();
+    let layers = tags.split(|tag| tag == b"LAYR").skip(1);
+    layers.filter(|tags| tags.contains(&&b"PTAG"[..])).count()
 }

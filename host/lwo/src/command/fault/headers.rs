@@ -3,8 +3,8 @@
 use lwo::Escaped;
 
 use super::expected::Expected;
-use super::named;
 use super::spot::Spot;
+use super::{layer, named};
 use crate::command::check::counted;
 use crate::command::chunks::{kind, sub_chunks, Chunk};
 
@@ -140,15 +140,19 @@ pub fn order(spot: &Spot) -> Option<Expected> {
     };
     let missing = needs
         .iter()
-        .filter(|need| spot.earlier(need).next().is_none());
+        .filter(|need| spot.earlier_in_layer(need).next().is_none());
     let missing: Vec<String> = missing.map(|need| Escaped(*need).to_string()).collect();
     let expected = match missing.len() {
         0 => return None,
         1 => "one",
         _ => "both",
     };
+    let before = match spot.layer() {
+        Some(layer) => format!("before it in its layer ({})", named(&layer)),
+        None => String::from("before it"),
+    };
     Some(Expected {
-        found: format!("no {} before it", missing.join(" and no ")),
+        found: format!("no {} {before}", missing.join(" and no ")),
         expected: String::from(expected),
     })
 }
@@ -168,6 +172,7 @@ pub fn body_length(spot: &Spot) -> Option<Expected> {
     let found = chunk.length();
     let expected = match (kind, &tags[..]) {
         (b"LWOB" | b"LWO2", [b"PNTS"]) => return points_length(kind, chunk),
+        (b"LWO2", [b"LAYR"]) => return layer::body_length(spot.file, chunk),
         (b"LWOB", [b"SURF", tag]) => lwob_length(tag)?,
         (b"LWO2", [b"SURF", b"SIDE"]) => 2,
         (b"LWO2", [b"SURF", tag]) => {

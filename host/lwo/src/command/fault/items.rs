@@ -4,9 +4,9 @@ use lwo::{Counts, Escaped};
 
 use super::expected::Expected;
 use super::headers::{bytes_counted, hexadecimal, lwo2_levels, POINT};
-use super::named;
 use super::spot::Spot;
 use super::strings::strings;
+use super::{layer, named};
 use crate::command::chunks::{chunks, Chunk};
 
 /// The bytes of a float.
@@ -27,13 +27,18 @@ pub fn not_finite(spot: &Spot) -> Option<Expected> {
     })
 }
 
-/// Whose float it is: a point's, or one of the three of a colour; of others the chunk says it.
+/// Whose float it is: a point's, one of the three of a colour, or one of the three of a layer's
+/// pivot; of others the chunk says it.
 fn owner(spot: &Spot) -> String {
-    let number = spot.offset().unwrap_or_default() / FLOAT;
+    let offset = spot.offset().unwrap_or_default();
+    let number = offset / FLOAT;
     let (_, tags) = spot.tags();
     match (&tags[..], number % 3) {
         ([b"PNTS"], axis) => format!(" as {} of point {}", ["x", "y", "z"][axis], number / 3),
         ([b"SURF", b"COLR"], level) => format!(" as {}", ["red", "green", "blue"][level]),
+        ([b"LAYR"], _) => {
+            layer::coordinate(offset).map_or_else(String::new, |one| format!(" as {one}"))
+        }
         _ => String::new(),
     }
 }
@@ -179,6 +184,7 @@ fn cut_item(spot: &Spot, first: Option<&u8>) -> Option<(&'static str, &'static [
     let offset = spot.offset()?;
     let item: (&str, &[usize]) = match (kind, &tags[..]) {
         (b"LWOB", [b"POLS" | b"PCHS"]) => ("a number", &[2]),
+        (b"LWO2", [b"LAYR"]) => layer::item(spot.file, spot.innermost()?, offset)?,
         (b"LWO2", [b"POLS" | b"PTAG"]) if offset == 0 => ("a type", &[4]),
         // A pair is not begun at the end, so that its second half is missing.
         (b"LWO2", [b"PTAG"]) if first.is_none() => ("a tag", &[2]),

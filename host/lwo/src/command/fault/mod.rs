@@ -6,6 +6,7 @@ mod expected;
 mod headers;
 mod holders;
 mod items;
+mod layer;
 mod spot;
 mod strings;
 #[cfg(test)]

@@ -84,4 +84,18 @@ impl<'a> Spot<'a> {
             .take_while(move |chunk| chunk.start < before)
             .filter(move |chunk| chunk.tag == *tag)
     }
+
+    /// The same, but only those that are in the layer of the chunk at fault.
+    pub fn earlier_in_layer(&self, tag: &'a [u8; 4]) -> impl Iterator<Item = Chunk> + 'a {
+        let from = self.layer().map_or(0, |layer| layer.end);
+        self.earlier(tag).filter(move |chunk| chunk.start >= from)
+    }
+
+    /// The LAYR that begins the layer of the chunk at fault, if there is one; LWOB has no layers.
+    pub fn layer(&self) -> Option<Chunk> {
+        match kind(self.file) {
+            b"LWO2" => self.earlier(b"LAYR").last(),
+            _ => None,
+        }
+    }
 }

@@ -92,7 +92,9 @@ fn must_be_plausible(fault: &Fault) {
     let is_expected = match words[..] {
         ["at", "most", most, ..] => found <= number(most),
         [low, "to", high, ..] => (number(low)..=number(high)).contains(&found),
-        [one, "or", "3"] => found == number(one) || found == 3,
+        [one, "or", other @ "3"] | [one, "", "or", other, "with", ..] => {
+            found == number(one) || found == number(other)
+        }
         [each, "for", "each", ..] => found % number(each) == 0,
         [least, "bytes", "or", "more"] => found >= number(least),
         [one] | [one, "(PNTS" | "(POLS" | "(TAGS" | "(SRFS", ..] if one.parse::<i64>().is_ok() => {

@@ -3,6 +3,7 @@
 mod changed;
 mod headers;
 mod items;
+mod layers;
 mod right;
 mod strings;
 
@@ -35,6 +36,14 @@ fn face() -> Vec<u8> {
         b"POLS",
         &join(&[&b"FACE"[..], &u2(3), &u2(0), &u2(1), &u2(2)]),
     )
+}
+
+/// What stands in a LAYR before the name.
+const LAYER_ITEMS: [u8; 16] = [0; 16];
+
+/// A layer with the name `Lid` and, behind it, a parent or nothing; 28 bytes without one.
+fn layer(parent: &[u8]) -> Vec<u8> {
+    chunk(b"LAYR", &join(&[&LAYER_ITEMS[..], b"Lid\0", parent]))
 }
 
 /// An LWO2 file of one surface, whose sub-chunks begin at 30.

@@ -3,7 +3,7 @@
 use cases::assemble::{chunk, f4, i2, join, string, sub_chunk, u2, vx_long, vx_short};
 use lwo::{Counts, Refusal, RefusalKind as K};
 
-use super::{face, lwo2, lwob, names, points, Fault};
+use super::{face, layer, lwo2, lwob, names, points, Fault};
 use crate::command::chunks::chunks;
 
 /// Nothing is told of a file that the library accepts, as if it were refused.
@@ -22,12 +22,14 @@ fn headers() {
     let patch = join(&[u2(1), u2(0), i2(1)]);
     let files = [
         lwo2(&[names(b"TAGS"), points(), face(), chunk(b"PTAG", b"PART")]),
+        lwo2(&[face_in_layer(b""), face_in_layer(&u2(0))].map(|layer| join(&layer))),
         lwob(&[
             points(),
             names(b"SRFS"),
             chunk(b"POLS", b""),
             chunk(b"PCHS", &patch),
             chunk(b"NOTE", b"x"),
+            chunk(b"LAYR", b"odd"),
         ]),
     ];
     for file in bounds.iter().chain(&files) {
@@ -64,6 +66,25 @@ fn items_and_strings_of_lwo2() {
         (K::ItemCut, 106),
     ] {
         is_silent(&file, kind, place);
+    }
+}
+
+/// A layer with all that a face needs.
+fn face_in_layer(parent: &[u8]) -> [Vec<u8>; 4] {
+    [layer(parent), points(), face(), chunk(b"PTAG", b"PART")]
+}
+
+/// The name stands 16 bytes behind the first byte of the body, and ends with the byte before a
+/// parent.
+#[test]
+fn layers() {
+    for parent in [&b""[..], &u2(0)] {
+        let file = lwo2(&face_in_layer(parent));
+        for offset in [0, 2, 4, 8, 12, 19, 20] {
+            is_silent(&file, K::ItemCut, 20 + offset);
+            is_silent(&file, K::NotFinite, 20 + offset);
+        }
+        is_silent(&file, K::StringOpen, 20 + 16);
     }
 }
 

@@ -1,5 +1,7 @@
-//! Files that must be accepted, each for one sentence of document 01, with the
-//! mesh that each must give.
+//! Files that must be accepted, each for one sentence of document 01 or of a
+//! request of document 02, with the mesh that each must give.
+
+mod layers;
 
 use crate::assemble::{chunk, f4, form, i2, join, string, sub_chunk, u2, vx_long, vx_short};
 use crate::assemble::{Kind, Tag};
@@ -29,6 +31,8 @@ pub fn accepted() -> Vec<Accepted> {
     add_standing(&mut list);
     add_latest_lists(&mut list);
     add_polygons(&mut list);
+    add_skipped(&mut list);
+    layers::add_layers(&mut list);
     list
 }
 
@@ -481,12 +485,18 @@ fn add_polygons(list: &mut Vec<Accepted>) {
         mesh.add_polygon(1, &[2], 0);
         add(list, Kind::Lwo2, &format!("count-bit-{bit}"), &chunks, mesh);
     }
-    let chunks = [chunk(b"LAYR", b"odd"), three, chunk(b"CRVS", &[])];
+}
+
+/// "Unlisted tags are skipped; top-level ones are counted as skipped", those
+/// that are listed in the other kind of file too.
+fn add_skipped(list: &mut Vec<Accepted>) {
+    let (three, words) = points(3, HALF);
     let mesh = PlainMesh {
         points: words,
         ..PlainMesh::default()
     };
-    for kind in [Kind::Lwob, Kind::Lwo2] {
+    for (kind, tag) in [(Kind::Lwob, b"LAYR"), (Kind::Lwo2, b"SRFS")] {
+        let chunks = [chunk(tag, b"odd"), three.clone(), chunk(b"CRVS", &[])];
         add(list, kind, "skipped", &chunks, mesh.clone());
         list.last_mut().expect("a file").skipped = 2;
     }

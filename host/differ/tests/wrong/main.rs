@@ -1,6 +1,8 @@
 //! Libraries that are wrong in one way each. Every one has to be found out, or
 //! the comparison would not be worth much.
 
+mod layers;
+
 use cases::random::Random;
 use differ::guarded::Guarded;
 use differ::lent::Lent;
