@@ -3,18 +3,19 @@
 use Prim.Native.Nat.{ℕ, _+_}
 use mathlib.Core.Path.{_≡_, refl, sym, ap, _∙_}
 use mathlib.Core.List.{List, [], _∷_, _++_, map, foldl, append-assoc, append-nil}
-use mathlib.Core.Option.{Option, none, some}
+use mathlib.Core.Option.{Option, none}
 use mathlib.Core.Bool.{Bool, true, false, not}
+use native.Mathlib.Omega.{arith}
 use lib.ListN.{length}
 use Rattle.format.specs.declared.Kind.{Kind}
 use Rattle.format.specs.declared.Kind.the-variants.{LWOB, LWO2}
 use Rattle.format.specs.declared.Fault.the-variants.{OutOfOrder, WrongLength, ItemCut, StringOpen, NotFinite}
-use Rattle.format.specs.Bytes.{tagNumber, number, finite, all, joined}
-use Rattle.format.specs.Items.{Verdict, fine, fault, _andThen_, _>>=_, _or_unless_, whole, upTo, item, uint, float, toZero, string}
+use Rattle.format.specs.Bytes.{tagNumber, number, finite, all, sum, joined}
+use Rattle.format.specs.Items.{fine, fault, _andThen_, _>>=_, _or_unless_, whole, upTo, item, uint, float, toZero, string}
 use Rattle.format.specs.Chunks.{Chunks, finished, broken, chunk}
 use Rattle.format.specs.Mesh.{Polygon}
 use Rattle.format.specs.Bodies.{Part, pointList, nameList, polygonList, tagging, surface, layer, skippedChunk, point, layerBody}
-use Rattle.format.specs.Rules.{Before, after, there, when_read_, unlistedTag, judge, added, pointsOf, namesOf, surfacesOf, from, tagged, polygonsIn, meshOf}
+use Rattle.format.specs.Rules.{Before, after, there, when_read_, unlistedTag, judge, added, pointsOf, namesOf, surfacesOf, polygonsIn, meshOf}
 use Rattle.format.specs.Contracts.{walkParts}
 use Rattle.format.specs.Worked.{digit, pairs, hex}
 use Rattle.format.proofs.Facts.{impossible, all-first, all-rest}
@@ -54,66 +55,52 @@ bodies-judged = refl
 
 -- ---- what may not follow it
 
-abbrev isPoints : Part → Bool
-isPoints (pointList ps) = true
-isPoints (nameList ns) = false
-isPoints (polygonList ps n) = false
-isPoints (tagging t ts) = false
-isPoints (surface s) = false
-isPoints layer = false
-isPoints skippedChunk = false
+-- whether a part is a new point list, and whether it is a new polygon list
+abbrev newLists : Part → Bool × Bool
+newLists (pointList ps) = (true, false)
+newLists (nameList ns) = (false, false)
+newLists (polygonList ps n) = (false, true)
+newLists (tagging t ts) = (false, false)
+newLists (surface s) = (false, false)
+newLists layer = (false, false)
+newLists skippedChunk = (false, false)
 
-abbrev isPolygons : Part → Bool
-isPolygons (pointList ps) = false
-isPolygons (nameList ns) = false
-isPolygons (polygonList ps n) = true
-isPolygons (tagging t ts) = false
-isPolygons (surface s) = false
-isPolygons layer = false
-isPolygons skippedChunk = false
+abbrev noPoints : Part → Bool
+noPoints part = not (newLists part .0)
+
+abbrev noPolygons : Part → Bool
+noPolygons part = not (newLists part .1)
 
 -- a list that is missing stays so, up to the next one
-module _ (list : Before → Option ℕ) (is-new : Part → Bool) (keeps : (b : Before) (part : Part) → not (is-new part) ≡ true → list b ≡ none → list (after b part) ≡ none) where
-  still-missing : (b : Before) (parts : List Part) → all (λ p. not (is-new p)) parts ≡ true → list b ≡ none → list (foldl after b parts) ≡ none
+one-part : (b : Before) (part : Part)
+    → (noPoints part ≡ true → b .points ≡ none → after b part .points ≡ none) × (noPolygons part ≡ true → b .polygons ≡ none → after b part .polygons ≡ none)
+unfolding after
+one-part b (pointList ps) = (λ e missing. impossible cc, λ e missing. missing)
+one-part b (nameList ns) = (λ e missing. missing, λ e missing. missing)
+one-part b (polygonList ps n) = (λ e missing. missing, λ e missing. impossible cc)
+one-part b (tagging t ts) = (λ e missing. missing, λ e missing. missing)
+one-part b (surface s) = (λ e missing. missing, λ e missing. missing)
+one-part b layer = (λ e missing. refl, λ e missing. refl)
+one-part b skippedChunk = (λ e missing. missing, λ e missing. missing)
+
+module _ (list : Before → Option ℕ) (no-new : Part → Bool) (one : (b : Before) (part : Part) → no-new part ≡ true → list b ≡ none → list (after b part) ≡ none) where
+  still-missing : (b : Before) (parts : List Part) → all no-new parts ≡ true → list b ≡ none → list (foldl after b parts) ≡ none
   still-missing b [] e missing = missing
-  still-missing b (p ∷ ps) e missing =
-      still-missing (after b p) ps (all-rest (λ q. not (is-new q)) p ps e) (keeps b p (all-first (λ q. not (is-new q)) p ps e) missing)
-
-no-new-points : (b : Before) (part : Part) → not (isPoints part) ≡ true → b .points ≡ none → after b part .points ≡ none
-unfolding after
-no-new-points b (pointList ps) e missing = impossible cc
-no-new-points b (nameList ns) e missing = missing
-no-new-points b (polygonList ps n) e missing = missing
-no-new-points b (tagging t ts) e missing = missing
-no-new-points b (surface s) e missing = missing
-no-new-points b layer e missing = refl
-no-new-points b skippedChunk e missing = missing
-
-no-new-polygons : (b : Before) (part : Part) → not (isPolygons part) ≡ true → b .polygons ≡ none → after b part .polygons ≡ none
-unfolding after
-no-new-polygons b (pointList ps) e missing = missing
-no-new-polygons b (nameList ns) e missing = missing
-no-new-polygons b (polygonList ps n) e missing = impossible cc
-no-new-polygons b (tagging t ts) e missing = missing
-no-new-polygons b (surface s) e missing = missing
-no-new-polygons b layer e missing = refl
-no-new-polygons b skippedChunk e missing = missing
+  still-missing b (p ∷ ps) e missing = still-missing (after b p) ps (all-rest no-new p ps e) (one b p (all-first no-new p ps e) missing)
 
 -- "POLS with no PNTS since it": any parts but point lists come between
-pub polygons-of-another-layer : (b : Before) (parts : List Part) (body : List ℕ) → all (λ p. not (isPoints p)) parts ≡ true
+pub polygons-of-another-layer : (b : Before) (parts : List Part) (body : List ℕ) → all noPoints parts ≡ true
     → judge LWO2 (foldl after (after b layer) parts) (tagNumber "POLS") body ≡ fault OutOfOrder 0
 unfolding judge when_read_ number
 polygons-of-another-layer b parts body e =
-    let missing = still-missing (λ b. b .points) isPoints no-new-points (after b layer) parts e (unfold after in refl) in
-    rw missing
+    rw (still-missing (λ b. b .points) noPoints (λ b part. one-part b part .0) (after b layer) parts e (unfold after in refl))
 
 -- "or PTAG with no POLS since it, is 5", of any type
-pub tags-of-another-layer : (b : Before) (parts : List Part) (body : List ℕ) → all (λ p. not (isPolygons p)) parts ≡ true
+pub tags-of-another-layer : (b : Before) (parts : List Part) (body : List ℕ) → all noPolygons parts ≡ true
     → judge LWO2 (foldl after (after b layer) parts) (tagNumber "PTAG") body ≡ fault OutOfOrder 0
 unfolding judge when_read_ number
 tags-of-another-layer b parts body e =
-    let missing = still-missing (λ b. b .polygons) isPolygons no-new-polygons (after b layer) parts e (unfold after in refl) in
-    rw missing
+    rw (still-missing (λ b. b .polygons) noPolygons (λ b part. one-part b part .1) (after b layer) parts e (unfold after in refl))
 
 -- names are the file's
 pub names-outlive : (b : Before) → after b layer .names ≡ b .names
@@ -122,7 +109,7 @@ names-outlive b = refl
 
 -- ---- "The mesh doesn't keep the layer."
 
-abbrev withoutLayers : List Part → List Part
+abbrev pub withoutLayers : List Part → List Part
 withoutLayers [] = []
 withoutLayers (pointList ps ∷ rest) = pointList ps ∷ withoutLayers rest
 withoutLayers (nameList ns ∷ rest) = nameList ns ∷ withoutLayers rest
@@ -146,12 +133,8 @@ data AllInOrder : Before → List Part → Type 0 where
   no-more : {b : Before} → AllInOrder b []
   one-more : {b : Before} {part : Part} {parts : List Part} → InOrder b part → AllInOrder (after b part) parts → AllInOrder b (part ∷ parts)
 
-walk-in-order : (kind : Kind) (b : Before) (place : ℕ) (cs : Chunks) (parts : List Part) → walkParts kind b place cs ≡ fine parts → AllInOrder b parts
-walk-in-order kind b place finished parts e = rw (← same-fine (sym (parts-finished kind b place) ∙ e)) no-more
-walk-in-order kind b place broken parts e = let bad = sym (parts-broken kind b place) ∙ e in impossible cc
-walk-in-order kind b place (chunk t body rest) parts e =
-    let x = next kind b place t body rest parts e in
-    let here =
+chunk-in-order : (kind : Kind) (b : Before) (t : ℕ) (body : List ℕ) (part : Part) → judge kind b t body ≡ fine part → InOrder b part
+chunk-in-order kind b t body part j =
     always (InOrder b) kind b t
     (record {
       of-points = λ e ps. tt;
@@ -159,11 +142,17 @@ walk-in-order kind b place (chunk t body rest) parts e =
       of-polygons = λ ok ps n. ok;
       of-tagging = λ ok type ts. ok;
       of-surface = λ e s. tt;
-      of-layer = tt;
+      of-layer = λ e. tt;
       of-skipped = tt;
     })
-    .each body (x .part) (x .here) in
-    rw (← x .both) (one-more here (walk-in-order kind (after b (x .part)) _ rest (x .later) (x .onward)))
+    .each body part j
+
+walk-in-order : (kind : Kind) (b : Before) (place : ℕ) (cs : Chunks) (parts : List Part) → walkParts kind b place cs ≡ fine parts → AllInOrder b parts
+walk-in-order kind b place finished parts e = rw (← same-fine (sym (parts-finished kind b place) ∙ e)) no-more
+walk-in-order kind b place broken parts e = let bad = sym (parts-broken kind b place) ∙ e in impossible cc
+walk-in-order kind b place (chunk t body rest) parts e =
+    let x = next kind b place t body rest parts e in
+    rw (← x .both) (one-more (chunk-in-order kind b t body (x .part) (x .here)) (walk-in-order kind (after b (x .part)) _ rest (x .later) (x .onward)))
 
 -- With layers the polygons `kept` came out earlier, and the latest list may start elsewhere while it is missing.
 same-polygons : {b : Before} {parts : List Part} → AllInOrder b parts → (base base′ end : ℕ) (kept latest latest′ : List Polygon)
@@ -179,8 +168,7 @@ same-polygons (one-more {part = nameList ns} o os) base base′ end kept latest 
 same-polygons (one-more {part = polygonList ps n} o os) base base′ end kept latest latest′ bases none-kept both =
     rw (← both, ← bases o) (sym (append-assoc kept latest _) ∙ ap (λ (l : List Polygon). (kept ++ latest) ++ l) (same-polygons os base base end [] _ _ (λ e. refl) (λ e. refl) refl))
 same-polygons (one-more {part = tagging t ts} o os) base base′ end kept latest latest′ bases none-kept both =
-    let nothing = none-kept o in
-    rw (← both, nothing) (same-polygons os base base′ end [] _ _ bases (λ e. refl) refl)
+    rw (← both, none-kept o) (same-polygons os base base′ end [] _ _ bases (λ e. refl) refl)
 same-polygons (one-more {part = surface s} o os) base base′ end kept latest latest′ bases none-kept both =
     same-polygons os base base′ end kept latest latest′ bases none-kept both
 same-polygons (one-more {part = layer} o os) base base′ end kept latest latest′ bases none-kept both =
@@ -188,17 +176,28 @@ same-polygons (one-more {part = layer} o os) base base′ end kept latest latest
 same-polygons (one-more {part = skippedChunk} o os) base base′ end kept latest latest′ bases none-kept both =
     same-polygons os base base′ end kept latest latest′ bases none-kept both
 
-module _ {A : Type 0} (f : Part → List A) (none-in : f layer ≡ []) where
-  same-lists : (parts : List Part) → joined (map f parts) ≡ joined (map f (withoutLayers parts))
-  unfolding joined
-  same-lists [] = refl
-  same-lists (pointList ps ∷ rest) = ap (λ (l : List A). f (pointList ps) ++ l) (same-lists rest)
-  same-lists (nameList ns ∷ rest) = ap (λ (l : List A). f (nameList ns) ++ l) (same-lists rest)
-  same-lists (polygonList ps n ∷ rest) = ap (λ (l : List A). f (polygonList ps n) ++ l) (same-lists rest)
-  same-lists (tagging t ts ∷ rest) = ap (λ (l : List A). f (tagging t ts) ++ l) (same-lists rest)
-  same-lists (surface s ∷ rest) = ap (λ (l : List A). f (surface s) ++ l) (same-lists rest)
-  same-lists (layer ∷ rest) = rw none-in (same-lists rest)
-  same-lists (skippedChunk ∷ rest) = ap (λ (l : List A). f skippedChunk ++ l) (same-lists rest)
+-- what is added up over the parts, where a layer adds nothing
+module _ {A : Type 0} (total : List Part → A) (with : Part → A → A) (step : (p : Part) (ps : List Part) → total (p ∷ ps) ≡ with p (total ps)) (none-in : (x : A) → with layer x ≡ x) where
+  one-kept : (p : Part) (ps qs : List Part) → total ps ≡ total qs → total (p ∷ ps) ≡ total (p ∷ qs)
+  one-kept p ps qs e = step p ps ∙ ap (with p) e ∙ sym (step p qs)
+
+  pub same-total : (parts : List Part) → total parts ≡ total (withoutLayers parts)
+  same-total [] = refl
+  same-total (pointList ps ∷ rest) = one-kept (pointList ps) rest _ (same-total rest)
+  same-total (nameList ns ∷ rest) = one-kept (nameList ns) rest _ (same-total rest)
+  same-total (polygonList ps n ∷ rest) = one-kept (polygonList ps n) rest _ (same-total rest)
+  same-total (tagging t ts ∷ rest) = one-kept (tagging t ts) rest _ (same-total rest)
+  same-total (surface s ∷ rest) = one-kept (surface s) rest _ (same-total rest)
+  same-total (layer ∷ rest) = step layer rest ∙ none-in (total rest) ∙ same-total rest
+  same-total (skippedChunk ∷ rest) = one-kept skippedChunk rest _ (same-total rest)
+
+same-lists : {A : Type 0} (f : Part → List A) → f layer ≡ [] → (parts : List Part) → joined (map f parts) ≡ joined (map f (withoutLayers parts))
+unfolding joined
+same-lists f none-in = same-total (λ ps. joined (map f ps)) (λ p l. f p ++ l) (λ p ps. refl) (λ l. rw none-in)
+
+pub same-sums : (f : Part → ℕ) → f layer ≡ 0 → (parts : List Part) → sum (map f parts) ≡ sum (map f (withoutLayers parts))
+unfolding sum
+same-sums f none-in = same-total (λ ps. sum (map f ps)) (λ p n. f p + n) (λ p ps. refl) (λ n. omega (arith, none-in))
 
 pub layers-not-kept : (kind : Kind) (b : Before) (place : ℕ) (cs : Chunks) (parts : List Part) → walkParts kind b place cs ≡ fine parts
     → meshOf kind parts ≡ meshOf kind (withoutLayers parts)

@@ -9,7 +9,6 @@ use lib.ListN.{length, take, drop, length-take, length-drop}
 use lib.IntN.{ℤ}
 use borrow.Author.Tests.{leb-true}
 use Rattle.format.specs.declared.Kind.{Kind}
-use Rattle.format.specs.declared.Kind.the-variants.{LWOB, LWO2}
 use Rattle.format.specs.declared.Fault.{Fault}
 use Rattle.format.specs.declared.Fault.the-variants.{WrongLength, ItemCut, StringOpen}
 use Rattle.format.specs.Bytes.{if_then_else_, _is_, all, sum, negative}

@@ -1,31 +1,31 @@
 -- What is accepted is a mesh: each chunk of bytes contributes what is good, the numbers of points and names only grow, and names come once.
-use Prim.Native.Nat.{ℕ, zero, suc, _+_, _≤_, _<_}
+use Prim.Native.Nat.{ℕ, zero, suc, _+_, _≤_}
 use Prim.Native.String.{String}
 use mathlib.Core.Path.{_≡_, refl, sym, ap, _∙_}
-use mathlib.Core.List.{List, [], _∷_, _++_, map, append-nil}
+use mathlib.Core.List.{List, [], _∷_, map, append-nil}
 use mathlib.Core.Option.{Option, none, some}
 use mathlib.Core.Bool.{Bool, true, false, not, _&&_, true≢false, and-eq-true-iff}
 use native.Mathlib.Omega.{arith}
-use lib.Dec.{leb, ltb, eqb}
+use lib.Dec.{leb, ltb}
 use lib.ListN.{length, take, drop, getD, length-append, length-map}
-use borrow.Author.Tests.{leb-true, le-leb, lt-ltb, ltb-true, eq-eqb, eqb-true, not-true}
+use borrow.Author.Tests.{leb-true, lt-ltb, ltb-true, eq-eqb, eqb-true, not-true}
 use Rattle.format.specs.declared.Kind.{Kind}
 use Rattle.format.specs.declared.Kind.the-variants.{LWOB, LWO2}
 use Rattle.format.specs.declared.Fault.the-variants.{BadHeader}
 use Rattle.format.specs.Bytes.{if_then_else_, _is_, spelt, number, f32One, byte, between, finite, every, all, joined, same}
 use Rattle.format.specs.Limits.{surfaceLimit}
-use Rattle.format.specs.Items.{Verdict, fine, fault, Got, _andThen_}
+use Rattle.format.specs.Items.{Verdict, fine, fault, Got}
 use Rattle.format.specs.Chunks.{Chunk, sizeOf, lengthOf, wellFormed, chunkOf, Chunks, finished, broken, chunk, link, split, chunks}
-use Rattle.format.specs.Mesh.{Point, pointWords, Polygon, polygonOf, FACE, PATCH, Name, Surface, missing, levels, surfaceWords, Mesh}
-use Rattle.format.specs.Surfaces.{Value, sideNumber, levelTag, floatLevel, lastOf, bit, recordOf}
+use Rattle.format.specs.Mesh.{pointWords, Polygon, polygonOf, Name, Surface, missing, levels, Mesh}
+use Rattle.format.specs.Surfaces.{Value, sideNumber, lastOf, bit, recordOf}
 use Rattle.format.specs.Bodies.{Part, SurfaceChunk, pointList, nameList, polygonList, tagging, surface, layer, skippedChunk}
 use Rattle.format.specs.Rules.{added, Before, start, after, there, count, pointsOf, namesOf, surfacesOf, standing, recordFor, from, withTag, retag, tagged, polygonsIn, meshOf, gives, rules}
 use Rattle.format.specs.Written.{goodPolygon, goodNames, goodSurface, goodMesh}
-use Rattle.format.proofs.Facts.{both, impossible, every-at, all-first, all-rest, all-append-true, all-drop, all-part, between-true}
+use Rattle.format.proofs.Facts.{both, impossible, all-first, all-rest, all-append-true, all-drop, all-part, between-true}
 use Rattle.format.proofs.Verdicts.{same-fine}
 use Rattle.format.specs.Contracts.{walkParts}
 use Rattle.format.proofs.ChunkWalk.{parts-finished, parts-broken, next, accepted}
-use Rattle.laws.proofs.GoodPolygons.{GoodPolygon, good-polygon, is-good}
+use Rattle.laws.proofs.GoodPolygons.{good-polygon, is-good}
 use Rattle.laws.proofs.Readers.{goodValue, goodPart, part-good}
 
 -- ---- chunks of bytes

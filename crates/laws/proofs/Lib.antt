@@ -17,3 +17,4 @@ pub mod Tables
 pub mod WrittenBack
 pub mod Room
 pub mod Unlisted
+pub mod WithoutLayers

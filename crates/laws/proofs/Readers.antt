@@ -1,28 +1,28 @@
 -- What every reader obeys, by one induction over how readers are made: a fault is a chunk's, lies within the chunk and is told where what has it starts, and what
 -- is read of bytes is good.
-use Prim.Native.Nat.{ℕ, zero, suc, _+_, _-_, _*_, _%_, _^_, _≤_, _<_}
-use mathlib.Core.Path.{_≡_, refl, sym, ap, _∙_}
+use Prim.Native.Nat.{ℕ, zero, suc, _+_, _-_, _*_, _%_, _^_, _≤_}
+use mathlib.Core.Path.{_≡_, refl, ap, _∙_}
 use mathlib.Core.List.{List, [], _∷_, _++_, map}
-use mathlib.Core.Bool.{Bool, true, false, not, _&&_, _||_, and-eq-true-iff, false≢true}
+use mathlib.Core.Bool.{Bool, true, false, not, _&&_, and-eq-true-iff, false≢true}
 use native.Mathlib.Omega.{arith}
 use lib.Dec.{leb, ltb, eqb}
-use lib.ListN.{length, take, drop, getD, length-take, length-drop}
+use lib.ListN.{length, take, drop, length-take, length-drop}
 use lib.IntN.{ℤ, pos, negsuc}
-use borrow.Author.Tests.{leb-true, leb-false, le-leb, lt-ltb, eq-eqb, eqb-true, eqb-false, ltb-true, ltb-false, not-true}
+use borrow.Author.Tests.{leb-true, leb-false, le-leb, lt-ltb, eq-eqb, eqb-true, eqb-false, ltb-true, ltb-false}
 use Rattle.format.specs.declared.Kind.{Kind}
 use Rattle.format.specs.declared.Kind.the-variants.{LWOB, LWO2}
 use Rattle.format.specs.declared.Container.{Container}
 use Rattle.format.specs.declared.Container.the-variants.{Surf, Blok, Attributes}
 use Rattle.format.specs.declared.Fault.{Fault}
 use Rattle.format.specs.declared.Fault.the-variants.{BadHeader, WrongLength, ItemCut, StringOpen, SurfaceValue}
-use Rattle.format.specs.Bytes.{if_then_else_, _is_, byte, between, number, signed, absolute, negative, finite, over255, over256, all, empty, every, sum, joined}
+use Rattle.format.specs.Bytes.{if_then_else_, _is_, byte, between, number, signed, absolute, negative, finite, over255, all, empty, every, joined}
 use Rattle.format.specs.Limits.{surfaceLimit, lwo2VertexLimit, lwobVertexLimit}
 use Rattle.format.specs.Refusals.{numberOf, ofChunk}
 use Rattle.format.specs.Items.{Verdict, fine, fault, Got, Reader, _>>=_, _andThen_, give, _or_unless_, _followedBy_, whole, times, upTo, many, item, uint, u2, u4, i2, float, vx, long, string, toZero, stringSize}
 use Rattle.format.specs.Chunks.{Chunk, headerOf, ofLength, sizeOf, lengthOf, wellFormed, chunkOf, sub, unjudged}
 use Rattle.format.specs.Mesh.{Point, pointWords, Polygon, FACE, PATCH, Name}
 use Rattle.format.specs.Surfaces.{Value, value, levelTag, floatLevel, lwobValue, lwo2Value, sideNumber, attribute, blockType, blockHeader, block, held, nested, surfaceDepth}
-use Rattle.format.specs.Bodies.{Part, pointList, nameList, polygonList, tagging, surface, layer, skippedChunk, point, pointsBody, layerBody, newName, name, namesAfter, namesBody, vertex, lwobVertices, inNameList, detail, details, detailsAfter, face, facesBody, patch, patchesBody, countBits, lwo2Vertices, polygon, polygonKind, polygonsBody, pair, taggingBody, surfaceStrings, surfaceBody}
+use Rattle.format.specs.Bodies.{Part, pointList, nameList, polygonList, tagging, surface, layer, skippedChunk, point, pointsBody, layerBody, newName, name, namesAfter, namesBody, lwobVertices, inNameList, detail, details, detailsAfter, face, facesBody, patch, patchesBody, countBits, lwo2Vertices, polygon, polygonKind, polygonsBody, pair, taggingBody, surfaceStrings, surfaceBody}
 use Rattle.format.specs.Rules.{Before, there, count, when_read_, judge}
 use Rattle.format.specs.Written.{goodPolygon, noZero, goodNames}
 use Rattle.format.proofs.Facts.{impossible, both, every-at, all-first, all-rest, all-append-true, all-drop, all-part, between-true}

@@ -7,18 +7,16 @@ use mathlib.Core.Bool.{true}
 use native.Mathlib.Omega.{arith}
 use native.Mathlib.Nat.{zero-add}
 use lib.ListN.{length}
-use borrow.Author.Tests.{not-true}
 use Rattle.format.specs.Bytes.{_is_, sum, joined}
-use Rattle.format.specs.Items.{fine, _andThen_}
+use Rattle.format.specs.Items.{fine}
 use Rattle.format.specs.declared.Kind.{Kind}
 use Rattle.format.specs.declared.Kind.the-variants.{LWOB, LWO2}
 use Rattle.format.specs.Chunks.{Chunk, sizeOf, Chunks, finished, broken, chunk}
 use Rattle.format.specs.Mesh.{Mesh, Polygon}
 use Rattle.format.specs.Bodies.{Part, pointList, nameList, polygonList, tagging, surface, layer, skippedChunk}
-use Rattle.format.specs.Rules.{added, unlistedTag, Before, start, after, judge, pointsOf, namesOf, surfacesOf, skippedOf, detailsOf, polygonsIn, meshOf, gives, outcome}
+use Rattle.format.specs.Rules.{added, unlistedTag, Before, start, after, pointsOf, namesOf, surfacesOf, skippedOf, detailsOf, polygonsIn, meshOf, gives}
 use Rattle.format.proofs.Facts.{impossible}
 use Rattle.format.proofs.ListedTags.{skips}
-use Rattle.format.proofs.Verdicts.{then-fine}
 use Rattle.format.specs.Contracts.{walkParts}
 use Rattle.format.proofs.ChunkWalk.{parts-finished, parts-broken, next}
 use Rattle.laws.proofs.Tiles.{inFront}

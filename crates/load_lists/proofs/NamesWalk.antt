@@ -11,7 +11,7 @@ use Rattle.format.specs.Items.{fine}
 use Rattle.format.specs.Chunks.{chunks}
 use Rattle.format.specs.Mesh.{Name}
 use Rattle.format.specs.Bodies.{Part, nameList, namesBody}
-use Rattle.format.specs.Rules.{added, Before, start, after, judge, namesOf}
+use Rattle.format.specs.Rules.{added, Before, after, judge, namesOf}
 use Rattle.format.specs.Contracts.{Put, walkParts, fileParts, FileRoom, FilePut, allNames, namesTag}
 use Rattle.format.proofs.Facts.{impossible}
 use Rattle.format.proofs.Puts.{joined-map-append, put-none}
@@ -33,7 +33,7 @@ no-names kind b t body part other j =
       of-polygons = λ ok ps n. refl;
       of-tagging = λ ok type ts. refl;
       of-surface = λ e s. refl;
-      of-layer = refl;
+      of-layer = λ e. refl;
       of-skipped = refl;
     })
     .each body part j

@@ -10,7 +10,7 @@ use Rattle.format.specs.declared.Kind.the-variants.{LWOB, LWO2}
 use Rattle.format.specs.Bytes.{if_then_else_, _is_}
 use Rattle.format.specs.Items.{fine, Reader, whole}
 use Rattle.format.specs.Mesh.{Polygon, pointWords, pointSize, polygonSize}
-use Rattle.format.specs.Bodies.{Part, pointList, nameList, layer, skippedChunk, pointsBody, namesBody, layerBody, taggingBody, surfaceBody}
+use Rattle.format.specs.Bodies.{Part, pointList, nameList, layer, skippedChunk, pointsBody, namesBody, taggingBody, surfaceBody}
 use Rattle.format.specs.Rules.{added, Before, after, count, when_read_, judge, from}
 use Rattle.format.specs.Contracts.{vertexTotal}
 use Rattle.format.proofs.Facts.{length-each}

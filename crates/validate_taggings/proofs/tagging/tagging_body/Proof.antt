@@ -1,6 +1,6 @@
 -- The type is read, and pairs follow it, or bytes that are not judged.
 use mathlib.Core.List.{[]}
-use borrow.Author.Tests.{eq-eqb, ne-eqb}
+use borrow.Author.Tests.{ne-eqb}
 use borrow.Author.Needs.{needs}
 use Rattle.format.specs.Bodies.{tagging, taggingBody}
 use Rattle.format.specs.Contracts.{nothing}
