@@ -1,4 +1,4 @@
--- A fault stays a fault, and a body that is fine adds nothing.
+-- A fault stays a fault, and a body that is fine adds what the caller says of it.
 use borrow.Author.Needs.{needs}
 use Rattle.format.specs.Items.{_andThen_}
 use Rattle.validate_chunk.proofs.chunk.of_checked.Statement.{statement}
