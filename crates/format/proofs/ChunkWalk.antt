@@ -67,6 +67,27 @@ next kind b place t body rest parts e =
     let y = then-fine (walkParts kind (after b (x .0)) (place + sizeOf 4 (length body)) rest) _ (x .2) in
     record { part = x .0; later = y .0; here = located-fine place (judge kind b t body) (x .1); onward = y .1; both = same-fine (y .2) }
 
+-- ---- what is true of each part
+
+-- P is true of each part, after those before it
+pub data EachPart (P : Before → Part → Type 0) : Before → List Part → Type 0 where
+  no-more : {b : Before} → EachPart P b []
+  one-more : {b : Before} {part : Part} {parts : List Part} → P b part → EachPart P (after b part) parts → EachPart P b (part ∷ parts)
+
+-- B is true of each chunk's body
+pub data EachBody (B : List ℕ → Type 0) : Chunks → Type 0 where
+  at-end : EachBody B finished
+  no-chunk : EachBody B broken
+  more : {t : ℕ} {body : List ℕ} {rest : Chunks} → B body → EachBody B rest → EachBody B (chunk t body rest)
+
+module _ (kind : Kind) (P : Before → Part → Type 0) (B : List ℕ → Type 0) (one : (b : Before) (t : ℕ) (body : List ℕ) (part : Part) → B body → judge kind b t body ≡ fine part → P b part) where
+  pub walk-each : (b : Before) (place : ℕ) {cs : Chunks} → EachBody B cs → (parts : List Part) → walkParts kind b place cs ≡ fine parts → EachPart P b parts
+  walk-each b place at-end parts e = rw (← same-fine (sym (parts-finished kind b place) ∙ e)) no-more
+  walk-each b place no-chunk parts e = let bad = sym (parts-broken kind b place) ∙ e in impossible cc
+  walk-each b place (more {t = t} {body = body} {rest = rest} has later) parts e =
+      let x = next kind b place t body rest parts e in
+      rw (← x .both) (one-more (one b t body (x .part) has (x .here)) (walk-each (after b (x .part)) _ later (x .later) (x .onward)))
+
 -- with places or without
 pub parts-fine : (kind : Kind) (b : Before) (place : ℕ) (cs : Chunks) {ps : List PartAt} → walk kind b place cs ≡ fine ps
     → walkParts kind b place cs ≡ fine (partsOf ps)

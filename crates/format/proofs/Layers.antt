@@ -19,8 +19,9 @@ use Rattle.format.specs.Rules.{Before, after, there, when_read_, unliste
 use Rattle.format.specs.Contracts.{walkParts}
 use Rattle.format.specs.Worked.{digit, pairs, hex}
 use Rattle.format.proofs.Facts.{impossible, all-first, all-rest}
-use Rattle.format.proofs.Verdicts.{same-fine}
-use Rattle.format.proofs.ChunkWalk.{parts-finished, parts-broken, next}
+use Rattle.format.proofs.ChunkWalk.{EachPart, EachBody, walk-each}
+use Rattle.format.proofs.ChunkWalk.EachPart.{no-more, one-more}
+use Rattle.format.proofs.ChunkWalk.EachBody.{at-end, no-chunk, more}
 use Rattle.format.proofs.PartByTag.{always}
 
 -- ---- the chunk
@@ -109,15 +110,11 @@ names-outlive b = refl
 
 -- ---- "The mesh doesn't keep the layer."
 
-abbrev pub withoutLayers : List Part → List Part
-withoutLayers [] = []
-withoutLayers (pointList ps ∷ rest) = pointList ps ∷ withoutLayers rest
-withoutLayers (nameList ns ∷ rest) = nameList ns ∷ withoutLayers rest
-withoutLayers (polygonList ps n ∷ rest) = polygonList ps n ∷ withoutLayers rest
-withoutLayers (tagging t ts ∷ rest) = tagging t ts ∷ withoutLayers rest
-withoutLayers (surface s ∷ rest) = surface s ∷ withoutLayers rest
-withoutLayers (layer ∷ rest) = withoutLayers rest
-withoutLayers (skippedChunk ∷ rest) = skippedChunk ∷ withoutLayers rest
+-- parts, and the same with some of the layers left out
+pub data LayersOut : List Part → List Part → Type 0 where
+  none-left : LayersOut [] []
+  kept : {part : Part} {parts parts′ : List Part} → LayersOut parts parts′ → LayersOut (part ∷ parts) (part ∷ parts′)
+  out : {parts parts′ : List Part} → LayersOut parts parts′ → LayersOut (layer ∷ parts) parts′
 
 -- what 5 asks of a part
 abbrev InOrder : Before → Part → Type 0
@@ -129,10 +126,6 @@ InOrder b (surface s) = Unit
 InOrder b layer = Unit
 InOrder b skippedChunk = Unit
 
-data AllInOrder : Before → List Part → Type 0 where
-  no-more : {b : Before} → AllInOrder b []
-  one-more : {b : Before} {part : Part} {parts : List Part} → InOrder b part → AllInOrder (after b part) parts → AllInOrder b (part ∷ parts)
-
 chunk-in-order : (kind : Kind) (b : Before) (t : ℕ) (body : List ℕ) (part : Part) → judge kind b t body ≡ fine part → InOrder b part
 chunk-in-order kind b t body part j =
     always (InOrder b) kind b t
@@ -142,65 +135,60 @@ chunk-in-order kind b t body part j =
       of-polygons = λ ok ps n. ok;
       of-tagging = λ ok type ts. ok;
       of-surface = λ e s. tt;
-      of-layer = λ e. tt;
+      of-layer = tt;
       of-skipped = tt;
     })
     .each body part j
 
-walk-in-order : (kind : Kind) (b : Before) (place : ℕ) (cs : Chunks) (parts : List Part) → walkParts kind b place cs ≡ fine parts → AllInOrder b parts
-walk-in-order kind b place finished parts e = rw (← same-fine (sym (parts-finished kind b place) ∙ e)) no-more
-walk-in-order kind b place broken parts e = let bad = sym (parts-broken kind b place) ∙ e in impossible cc
-walk-in-order kind b place (chunk t body rest) parts e =
-    let x = next kind b place t body rest parts e in
-    rw (← x .both) (one-more (chunk-in-order kind b t body (x .part) (x .here)) (walk-in-order kind (after b (x .part)) _ rest (x .later) (x .onward)))
+any-body : (cs : Chunks) → EachBody (λ body. Unit {0}) cs
+any-body finished = at-end
+any-body broken = no-chunk
+any-body (chunk t body rest) = more tt (any-body rest)
 
--- With layers the polygons `kept` came out earlier, and the latest list may start elsewhere while it is missing.
-same-polygons : {b : Before} {parts : List Part} → AllInOrder b parts → (base base′ end : ℕ) (kept latest latest′ : List Polygon)
+walk-in-order : (kind : Kind) (b : Before) (place : ℕ) (cs : Chunks) (parts : List Part) → walkParts kind b place cs ≡ fine parts → EachPart InOrder b parts
+walk-in-order kind b place cs parts e = walk-each kind InOrder _ (λ b t body part has j. chunk-in-order kind b t body part j) b place (any-body cs) parts e
+
+-- With the layers the polygons `early` came out earlier, and the latest list may start elsewhere while it is missing.
+same-polygons : {b : Before} {parts parts′ : List Part} → EachPart InOrder b parts → LayersOut parts parts′ → (base base′ end : ℕ) (early latest latest′ : List Polygon)
     → (there (b .points) ≡ true → base ≡ base′)
-    → (there (b .polygons) ≡ true → kept ≡ []) → kept ++ latest ≡ latest′
-    → kept ++ polygonsIn base end latest parts ≡ polygonsIn base′ end latest′ (withoutLayers parts)
+    → (there (b .polygons) ≡ true → early ≡ []) → early ++ latest ≡ latest′
+    → early ++ polygonsIn base end latest parts ≡ polygonsIn base′ end latest′ parts′
 unfolding polygonsIn after
-same-polygons no-more base base′ end kept latest latest′ bases none-kept both = both
-same-polygons (one-more {part = pointList ps} o os) base base′ end kept latest latest′ bases none-kept both =
-    same-polygons os end end (end + length ps) kept latest latest′ (λ e. refl) none-kept both
-same-polygons (one-more {part = nameList ns} o os) base base′ end kept latest latest′ bases none-kept both =
-    same-polygons os base base′ end kept latest latest′ bases none-kept both
-same-polygons (one-more {part = polygonList ps n} o os) base base′ end kept latest latest′ bases none-kept both =
-    rw (← both, ← bases o) (sym (append-assoc kept latest _) ∙ ap (λ (l : List Polygon). (kept ++ latest) ++ l) (same-polygons os base base end [] _ _ (λ e. refl) (λ e. refl) refl))
-same-polygons (one-more {part = tagging t ts} o os) base base′ end kept latest latest′ bases none-kept both =
-    rw (← both, none-kept o) (same-polygons os base base′ end [] _ _ bases (λ e. refl) refl)
-same-polygons (one-more {part = surface s} o os) base base′ end kept latest latest′ bases none-kept both =
-    same-polygons os base base′ end kept latest latest′ bases none-kept both
-same-polygons (one-more {part = layer} o os) base base′ end kept latest latest′ bases none-kept both =
-    sym (append-assoc kept latest _) ∙ same-polygons os end base′ end (kept ++ latest) [] latest′ (λ e. impossible cc) (λ e. impossible cc) (append-nil (kept ++ latest) ∙ both)
-same-polygons (one-more {part = skippedChunk} o os) base base′ end kept latest latest′ bases none-kept both =
-    same-polygons os base base′ end kept latest latest′ bases none-kept both
+same-polygons no-more none-left base base′ end early latest latest′ bases none-early both = both
+same-polygons (one-more {part = pointList ps} o os) (kept r) base base′ end early latest latest′ bases none-early both =
+    same-polygons os r end end (end + length ps) early latest latest′ (λ e. refl) none-early both
+same-polygons (one-more {part = nameList ns} o os) (kept r) base base′ end early latest latest′ bases none-early both =
+    same-polygons os r base base′ end early latest latest′ bases none-early both
+same-polygons (one-more {part = polygonList ps n} o os) (kept r) base base′ end early latest latest′ bases none-early both =
+    rw (← both, ← bases o) (sym (append-assoc early latest _) ∙ ap (λ (l : List Polygon). (early ++ latest) ++ l) (same-polygons os r base base end [] _ _ (λ e. refl) (λ e. refl) refl))
+same-polygons (one-more {part = tagging t ts} o os) (kept r) base base′ end early latest latest′ bases none-early both =
+    rw (← both, none-early o) (same-polygons os r base base′ end [] _ _ bases (λ e. refl) refl)
+same-polygons (one-more {part = surface s} o os) (kept r) base base′ end early latest latest′ bases none-early both =
+    same-polygons os r base base′ end early latest latest′ bases none-early both
+same-polygons (one-more {part = layer} o os) (kept r) base base′ end early latest latest′ bases none-early both =
+    rw (← both) (sym (append-assoc early latest _) ∙ ap (λ (l : List Polygon). (early ++ latest) ++ l) (same-polygons os r end end end [] [] [] (λ e. refl) (λ e. refl) refl))
+same-polygons (one-more {part = layer} o os) (out r) base base′ end early latest latest′ bases none-early both =
+    sym (append-assoc early latest _) ∙ same-polygons os r end base′ end (early ++ latest) [] latest′ (λ e. impossible cc) (λ e. impossible cc) (append-nil (early ++ latest) ∙ both)
+same-polygons (one-more {part = skippedChunk} o os) (kept r) base base′ end early latest latest′ bases none-early both =
+    same-polygons os r base base′ end early latest latest′ bases none-early both
 
 -- what is added up over the parts, where a layer adds nothing
 module _ {A : Type 0} (total : List Part → A) (with : Part → A → A) (step : (p : Part) (ps : List Part) → total (p ∷ ps) ≡ with p (total ps)) (none-in : (x : A) → with layer x ≡ x) where
-  one-kept : (p : Part) (ps qs : List Part) → total ps ≡ total qs → total (p ∷ ps) ≡ total (p ∷ qs)
-  one-kept p ps qs e = step p ps ∙ ap (with p) e ∙ sym (step p qs)
+  same-total : {parts parts′ : List Part} → LayersOut parts parts′ → total parts ≡ total parts′
+  same-total none-left = refl
+  same-total (kept {part = p} {parts = ps} {parts′ = qs} r) = step p ps ∙ ap (with p) (same-total r) ∙ sym (step p qs)
+  same-total (out {parts = ps} r) = step layer ps ∙ none-in (total ps) ∙ same-total r
 
-  pub same-total : (parts : List Part) → total parts ≡ total (withoutLayers parts)
-  same-total [] = refl
-  same-total (pointList ps ∷ rest) = one-kept (pointList ps) rest _ (same-total rest)
-  same-total (nameList ns ∷ rest) = one-kept (nameList ns) rest _ (same-total rest)
-  same-total (polygonList ps n ∷ rest) = one-kept (polygonList ps n) rest _ (same-total rest)
-  same-total (tagging t ts ∷ rest) = one-kept (tagging t ts) rest _ (same-total rest)
-  same-total (surface s ∷ rest) = one-kept (surface s) rest _ (same-total rest)
-  same-total (layer ∷ rest) = step layer rest ∙ none-in (total rest) ∙ same-total rest
-  same-total (skippedChunk ∷ rest) = one-kept skippedChunk rest _ (same-total rest)
-
-same-lists : {A : Type 0} (f : Part → List A) → f layer ≡ [] → (parts : List Part) → joined (map f parts) ≡ joined (map f (withoutLayers parts))
+same-lists : {A : Type 0} (f : Part → List A) → f layer ≡ [] → {parts parts′ : List Part} → LayersOut parts parts′ → joined (map f parts) ≡ joined (map f parts′)
 unfolding joined
-same-lists f none-in = same-total (λ ps. joined (map f ps)) (λ p l. f p ++ l) (λ p ps. refl) (λ l. rw none-in)
+same-lists f none-in r = same-total (λ ps. joined (map f ps)) (λ p l. f p ++ l) (λ p ps. refl) (λ l. rw none-in) r
 
-pub same-sums : (f : Part → ℕ) → f layer ≡ 0 → (parts : List Part) → sum (map f parts) ≡ sum (map f (withoutLayers parts))
+pub same-sums : (f : Part → ℕ) → f layer ≡ 0 → {parts parts′ : List Part} → LayersOut parts parts′ → sum (map f parts) ≡ sum (map f parts′)
 unfolding sum
-same-sums f none-in = same-total (λ ps. sum (map f ps)) (λ p n. f p + n) (λ p ps. refl) (λ n. omega (arith, none-in))
+same-sums f none-in r = same-total (λ ps. sum (map f ps)) (λ p n. f p + n) (λ p ps. refl) (λ n. omega (arith, none-in)) r
 
-pub layers-not-kept : (kind : Kind) (b : Before) (place : ℕ) (cs : Chunks) (parts : List Part) → walkParts kind b place cs ≡ fine parts
-    → meshOf kind parts ≡ meshOf kind (withoutLayers parts)
+pub layers-not-kept : (kind : Kind) (b : Before) (place : ℕ) (cs : Chunks) {parts parts′ : List Part} → walkParts kind b place cs ≡ fine parts
+    → LayersOut parts parts′ → meshOf kind parts ≡ meshOf kind parts′
 unfolding meshOf added
-layers-not-kept kind b place cs parts e =
-    rw (same-lists pointsOf refl parts, same-lists namesOf refl parts, same-lists surfacesOf refl parts, same-polygons (walk-in-order kind b place cs parts e) 0 0 0 [] [] [] (λ e. refl) (λ e. refl) refl)
+layers-not-kept kind b place cs e r =
+    rw (same-lists pointsOf refl r, same-lists namesOf refl r, same-lists surfacesOf refl r, same-polygons (walk-in-order kind b place cs _ e) r 0 0 0 [] [] [] (λ e. refl) (λ e. refl) refl)

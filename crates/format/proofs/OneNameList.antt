@@ -27,7 +27,7 @@ first-names kind b t body ns j =
       of-polygons = λ ok ps n ms i. impossible cc;
       of-tagging = λ ok type ts ms i. impossible cc;
       of-surface = λ e s ms i. impossible cc;
-      of-layer = λ e ms i. impossible cc;
+      of-layer = λ ms i. impossible cc;
       of-skipped = λ ms i. impossible cc;
     })
     .each body (nameList ns) j ns refl
@@ -44,7 +44,7 @@ stays kind b n t body part there j =
       of-polygons = λ ok ps k. (refl, there);
       of-tagging = λ ok type ts. (refl, there);
       of-surface = λ e s. (refl, there);
-      of-layer = λ e. (refl, there);
+      of-layer = (refl, there);
       of-skipped = (refl, there);
     })
     .each body part j

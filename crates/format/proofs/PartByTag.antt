@@ -101,7 +101,7 @@ pub record Allowed (P : Part → Type 0) (kind : Kind) (b : Before) (t : ℕ) : 
   pub of-polygons : there (b .points) ≡ true → (ps : List Polygon) (n : ℕ) → P (polygonList ps n)
   pub of-tagging : there (b .polygons) ≡ true → (type : ℕ) (ts : List (ℕ × ℕ)) → P (tagging type ts)
   pub of-surface : t is "SURF" ≡ true → (s : SurfaceChunk) → P (surface s)
-  pub of-layer : t is "LAYR" ≡ true → P layer
+  pub of-layer : P layer
   pub of-skipped : P skippedChunk
 
 not-there : (o : Option ℕ) → not (there o) ≡ true → o ≡ none
@@ -131,7 +131,7 @@ module _ (P : Part → Type 0) where
         of-polygons = λ e. always-when _ (λ ok. makes-polygons P (a .of-polygons ok) _);
         of-tagging = λ e. always-when _ (λ ok. makes-tagging P (a .of-tagging ok) _ _);
         of-surface = λ e. always-when _ (λ ok. makes-surface P kind (a .of-surface e));
-        of-layer = λ e. always-when _ (λ ok. makes-layer P (a .of-layer e));
+        of-layer = λ e. always-when _ (λ ok. makes-layer P (a .of-layer));
         of-skipped = always-skipped (a .of-skipped);
       })
 

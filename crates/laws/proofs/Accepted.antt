@@ -15,25 +15,23 @@ use Rattle.format.specs.declared.Fault.the-variants.{BadHeader}
 use Rattle.format.specs.Bytes.{if_then_else_, _is_, spelt, number, f32One, byte, between, finite, every, all, joined, same}
 use Rattle.format.specs.Limits.{surfaceLimit}
 use Rattle.format.specs.Items.{Verdict, fine, fault, Got}
-use Rattle.format.specs.Chunks.{Chunk, sizeOf, lengthOf, wellFormed, chunkOf, Chunks, finished, broken, chunk, link, split, chunks}
+use Rattle.format.specs.Chunks.{Chunk, sizeOf, lengthOf, wellFormed, chunkOf, Chunks, chunk, link, split, chunks}
 use Rattle.format.specs.Mesh.{pointWords, Polygon, polygonOf, Name, Surface, missing, levels, Mesh}
 use Rattle.format.specs.Surfaces.{Value, sideNumber, lastOf, bit, recordOf}
 use Rattle.format.specs.Bodies.{Part, SurfaceChunk, pointList, nameList, polygonList, tagging, surface, layer, skippedChunk}
 use Rattle.format.specs.Rules.{added, Before, start, after, there, count, pointsOf, namesOf, surfacesOf, standing, recordFor, from, withTag, retag, tagged, polygonsIn, meshOf, gives, rules}
 use Rattle.format.specs.Written.{goodPolygon, goodNames, goodSurface, goodMesh}
-use Rattle.format.proofs.Facts.{both, impossible, all-first, all-rest, all-append-true, all-drop, all-part, between-true}
-use Rattle.format.proofs.Verdicts.{same-fine}
-use Rattle.format.specs.Contracts.{walkParts}
-use Rattle.format.proofs.ChunkWalk.{parts-finished, parts-broken, next, accepted}
+use Rattle.format.proofs.Facts.{both, all-first, all-rest, all-append-true, all-drop, all-part, between-true}
+use Rattle.format.proofs.ChunkWalk.{EachPart, EachBody, walk-each, accepted}
+use Rattle.format.proofs.ChunkWalk.EachPart.{no-more, one-more}
+use Rattle.format.proofs.ChunkWalk.EachBody.{at-end, no-chunk, more}
 use Rattle.laws.proofs.GoodPolygons.{good-polygon, is-good}
 use Rattle.laws.proofs.Readers.{goodValue, goodPart, part-good}
 
 -- ---- chunks of bytes
 
-data ByteChunks : Chunks → Type 0 where
-  at-end : ByteChunks finished
-  no-chunk : ByteChunks broken
-  more : {t : ℕ} {body : List ℕ} {rest : Chunks} → all byte body ≡ true → ByteChunks rest → ByteChunks (chunk t body rest)
+abbrev ByteChunks : Chunks → Type 0
+ByteChunks cs = EachBody (λ body. all byte body ≡ true) cs
 
 abbrev InBytes : Verdict (Got Chunk) → Type 0
 InBytes (fine c) = (all byte (c .value .body) ≡ true) × (all byte (c .left) ≡ true)
@@ -60,18 +58,8 @@ split-bytes (suc n) (b ∷ s) e = by (chunkOf 4 0 (b ∷ s)) (chunk-bytes (b ∷
 
 -- ---- the parts of a file
 
-data GoodParts (kind : Kind) : Before → List Part → Type 0 where
-  no-more : {b : Before} → GoodParts kind b []
-  one-more : {b : Before} {part : Part} {parts : List Part} → goodPart kind b part ≡ true → GoodParts kind (after b part) parts
-      → GoodParts kind b (part ∷ parts)
-
-walk-good : (kind : Kind) (b : Before) (place : ℕ) {cs : Chunks} → ByteChunks cs → (parts : List Part) → walkParts kind b place cs ≡ fine parts
-    → GoodParts kind b parts
-walk-good kind b place at-end parts e = rw (← same-fine (sym (parts-finished kind b place) ∙ e)) no-more
-walk-good kind b place no-chunk parts e = let bad = sym (parts-broken kind b place) ∙ e in impossible cc
-walk-good kind b place (more {t = t} {body = body} {rest = rest} bytes later) parts e =
-    let x = next kind b place t body rest parts e in
-    rw (← x .both) (one-more (part-good kind b t body bytes (x .here)) (walk-good kind (after b (x .part)) _ later (x .later) (x .onward)))
+abbrev GoodParts : Kind → Before → List Part → Type 0
+GoodParts kind b parts = EachPart (λ b part. goodPart kind b part ≡ true) b parts
 
 -- ---- points and names
 
@@ -320,5 +308,5 @@ pub accepted-good : (file : List ℕ) {m : Mesh} {k d : ℕ} → all byte file �
 unfolding chunks
 accepted-good file bytes e =
     let a = accepted e in
-    let parts = walk-good (a .kind) start 12 (split-bytes (length (drop 12 file)) (drop 12 file) (all-drop byte file 12 bytes)) (a .parts) (a .walked) in
+    let parts = walk-each (a .kind) _ _ (λ b t body part bytes j. part-good (a .kind) b t body bytes j) start 12 (split-bytes (length (drop 12 file)) (drop 12 file) (all-drop byte file 12 bytes)) (a .parts) (a .walked) in
     rw (← a .mesh) (mesh-good (a .kind) (a .parts) parts)

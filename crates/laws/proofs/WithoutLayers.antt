@@ -1,22 +1,24 @@
--- The layers of an accepted file taken out: every other chunk is judged by the names and by lists of its own layer, and these are the latest then too.
-use Prim.Native.Nat.{ℕ}
+-- Some layers of an accepted file taken out: every other chunk is judged by the names and by lists of its own layer, and these are the latest then too.
+use Prim.Native.Nat.{ℕ, _+_}
 use mathlib.Core.Path.{_≡_, refl, sym, subst, _∙_}
-use mathlib.Core.List.{List, _∷_}
+use mathlib.Core.List.{List, [], _∷_}
 use mathlib.Core.Bool.{Bool, true, false, not}
 use mathlib.Core.Option.{Option, none, some}
+use lib.ListN.{length}
 use Rattle.format.specs.declared.Kind.the-variants.{LWO2}
 use Rattle.format.specs.Bytes.{if_then_else_, _is_}
 use Rattle.format.specs.Items.{Verdict, fine, Reader}
-use Rattle.format.specs.Chunks.{Chunks, finished, broken, chunk}
+use Rattle.format.specs.Chunks.{sizeOf, Chunks, finished, broken, chunk}
 use Rattle.format.specs.Mesh.{Mesh}
 use Rattle.format.specs.Bodies.{Part, pointList, nameList, polygonList, tagging, surface, layer, skippedChunk, namesBody, polygonsBody, taggingBody}
 use Rattle.format.specs.Rules.{Before, start, after, there, count, when_read_, judge, added, skippedOf, detailsOf, gives}
 use Rattle.format.specs.Contracts.{walkParts}
 use Rattle.format.proofs.Facts.{impossible}
 use Rattle.format.proofs.Verdicts.{same-fine}
-use Rattle.format.proofs.ChunkWalk.{parts-finished, parts-broken, Next, next}
-use Rattle.format.proofs.PartByTag.{always, holds-layer}
-use Rattle.format.proofs.Layers.{withoutLayers, same-sums, layers-not-kept}
+use Rattle.format.proofs.ChunkWalk.{parts-finished, parts-broken, next}
+use Rattle.format.proofs.PartByTag.{holds-layer}
+use Rattle.format.proofs.Layers.{LayersOut, same-sums, layers-not-kept}
+use Rattle.format.proofs.Layers.LayersOut.{none-left, kept as kept-part, out as out-part}
 use Rattle.laws.proofs.Walk.{walk-on}
 use Rattle.laws.proofs.Form.{told, outcomeOf, was-fine}
 
@@ -73,54 +75,45 @@ judge-alike {b} {b′} l t =
     (alike-if (t is "POLS") (alike-list (b .points) (b′ .points) (l .points) polygonsBody)
     (alike-if (t is "PTAG") tags (alike-if (t is "SURF") alike-same (alike-if (t is "LAYR") alike-same alike-same)))))
 
--- ---- the chunks without the layers
+-- ---- the chunks without some of the layers
 
-unfoldable pub layersOut : Chunks → Chunks
-layersOut finished = finished
-layersOut broken = broken
-layersOut (chunk t body rest) = if t is "LAYR" then layersOut rest else chunk t body (layersOut rest)
+pub data LayerChunksOut : Chunks → Chunks → Type 0 where
+  at-end : LayerChunksOut finished finished
+  no-chunk : LayerChunksOut broken broken
+  kept : {t : ℕ} {body : List ℕ} {rest rest′ : Chunks} → LayerChunksOut rest rest′ → LayerChunksOut (chunk t body rest) (chunk t body rest′)
+  out : {t : ℕ} {body : List ℕ} {rest rest′ : Chunks} → t is "LAYR" ≡ true → LayerChunksOut rest rest′ → LayerChunksOut (chunk t body rest) rest′
 
--- a chunk of any other tag is no layer
-no-layer : (b : Before) (t : ℕ) (body : List ℕ) (part : Part) → t is "LAYR" ≡ false → judge LWO2 b t body ≡ fine part
-    → (later : List Part) → withoutLayers (part ∷ later) ≡ part ∷ withoutLayers later
-no-layer b t body part other j =
-    always (λ part. (later : List Part) → withoutLayers (part ∷ later) ≡ part ∷ withoutLayers later) LWO2 b t
-    (record {
-      of-points = λ e ps later. refl;
-      of-names = λ e missing ns later. refl;
-      of-polygons = λ ok ps n later. refl;
-      of-tagging = λ ok type ts later. refl;
-      of-surface = λ e s later. refl;
-      of-layer = λ e. impossible (cc (sym e ∙ other));
-      of-skipped = λ later. refl;
-    })
-    .each body part j
+-- they are fine, and have the same parts but for these layers
+record FineWithout (b : Before) (place : ℕ) (cs : Chunks) (parts : List Part) : Type 0 where
+  fewer : List Part
+  walked : walkParts LWO2 b place cs ≡ fine fewer
+  left-out : LayersOut parts fewer
 
-taken-out : {b b′ : Before} → NoLess b b′ → (p q : ℕ) (cs : Chunks) (parts : List Part) → walkParts LWO2 b p cs ≡ fine parts
-    → walkParts LWO2 b′ q (layersOut cs) ≡ fine (withoutLayers parts)
-unfolding layersOut
-taken-out {b} {b′} l p q finished parts e = rw (← same-fine (sym (parts-finished LWO2 b p) ∙ e)) (parts-finished LWO2 b′ q)
-taken-out {b} l p q broken parts e = let bad = sym (parts-broken LWO2 b p) ∙ e in impossible cc
-taken-out {b} {b′} l p q (chunk t body rest) parts e =
+taken-out : {b b′ : Before} → NoLess b b′ → (p q : ℕ) {cs cs′ : Chunks} → LayerChunksOut cs cs′ → (parts : List Part) → walkParts LWO2 b p cs ≡ fine parts
+    → FineWithout b′ q cs′ parts
+taken-out {b} {b′} l p q at-end parts e =
+    rw (← same-fine (sym (parts-finished LWO2 b p) ∙ e)) (record { fewer = []; walked = parts-finished LWO2 b′ q; left-out = none-left })
+taken-out {b} l p q no-chunk parts e = let bad = sym (parts-broken LWO2 b p) ∙ e in impossible cc
+taken-out {b} {b′} l p q (kept {t = t} {body = body} {rest = rest} {rest′ = rest′} r) parts e =
     let x = next LWO2 b p t body rest parts e in
-    by x (t is "LAYR") refl (λ b₁ b₂ less p q j. taken-out less p q rest (x .later) j)
-  where
-    by : (x : Next LWO2 b p t body rest parts) (is-layer : Bool) → t is "LAYR" ≡ is-layer
-        → ((b₁ b₂ : Before) → NoLess b₁ b₂ → (p q : ℕ) → walkParts LWO2 b₁ p rest ≡ fine (x .later) → walkParts LWO2 b₂ q (layersOut rest) ≡ fine (withoutLayers (x .later)))
-        → walkParts LWO2 b′ q (if is-layer then layersOut rest else chunk t body (layersOut rest)) ≡ fine (withoutLayers parts)
-    by x true i again =
-        let same : x .part ≡ layer = holds-layer i .each b body (x .part) (x .here) .part-is in
-        rw (← x .both, same) (again _ _ (no-less-layer l) _ q (rw same at (x .onward)))
-    by x false i again =
-        rw (← x .both, no-layer b t body (x .part) i (x .here) (x .later))
-        (walk-on LWO2 b′ q t body (layersOut rest) (judge-alike l t .each body (x .part) (x .here)) (again _ _ (no-less-after l (x .part)) _ _ (x .onward)))
+    let later = taken-out (no-less-after l (x .part)) _ (q + sizeOf 4 (length body)) r (x .later) (x .onward) in
+    rw (← x .both)
+    (record {
+      fewer = x .part ∷ later .fewer;
+      walked = walk-on LWO2 b′ q t body rest′ (judge-alike l t .each body (x .part) (x .here)) (later .walked);
+      left-out = kept-part (later .left-out);
+    })
+taken-out {b} {b′} l p q (out {t = t} {body = body} {rest = rest} i r) parts e =
+    let x = next LWO2 b p t body rest parts e in
+    let same : x .part ≡ layer = holds-layer i .each b body (x .part) (x .here) .part-is in
+    let later = taken-out (no-less-layer l) _ q r (x .later) (rw same at (x .onward)) in
+    rw (← x .both, same) (record { fewer = later .fewer; walked = later .walked; left-out = out-part (later .left-out) })
 
--- "The mesh doesn't keep the layer": without its layers an accepted file has the same mesh and the same counts
-pub layers-taken-out : (cs : Chunks) (m : Mesh) (k d : ℕ) → outcomeOf LWO2 cs ≡ gives m k d → outcomeOf LWO2 (layersOut cs) ≡ gives m k d
+-- "The mesh doesn't keep the layer": with some of its layers left out, or all, an accepted file has the same mesh and the same counts
+pub layers-taken-out : {cs cs′ : Chunks} → LayerChunksOut cs cs′ → (m : Mesh) (k d : ℕ) → outcomeOf LWO2 cs ≡ gives m k d → outcomeOf LWO2 cs′ ≡ gives m k d
 unfolding told added
-layers-taken-out cs m k d e =
+layers-taken-out {cs} r m k d e =
     let w = was-fine LWO2 (walkParts LWO2 start 12 cs) e in
-    let parts = w .0 in
+    let t = taken-out {b = start} {b′ = start} (record { points = λ e. refl; polygons = λ e. refl; names = refl }) 12 12 r (w .0) (w .1) in
     let given = rw (w .1) at e in
-    rw (taken-out {b = start} {b′ = start} (record { points = λ e. refl; polygons = λ e. refl; names = refl }) 12 12 cs parts (w .1), ← layers-not-kept LWO2 start 12 cs parts (w .1), ← same-sums skippedOf refl parts, ← same-sums detailsOf refl parts)
-    given
+    rw (t .walked, ← layers-not-kept LWO2 start 12 cs (w .1) (t .left-out), ← same-sums skippedOf refl (t .left-out), ← same-sums detailsOf refl (t .left-out)) given

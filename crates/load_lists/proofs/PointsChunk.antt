@@ -51,7 +51,7 @@ no-points kind b t body part other j =
       of-polygons = λ ok ps n. refl;
       of-tagging = λ ok type ts. refl;
       of-surface = λ e s. refl;
-      of-layer = λ e. refl;
+      of-layer = refl;
       of-skipped = refl;
     })
     .each body part j

@@ -78,7 +78,7 @@ no-surfaces kind b t body part other j =
       of-polygons = λ ok ps n. refl;
       of-tagging = λ ok type ts. refl;
       of-surface = λ e s. impossible (cc (sym e ∙ other));
-      of-layer = λ e. refl;
+      of-layer = refl;
       of-skipped = refl;
     })
     .each body part j
