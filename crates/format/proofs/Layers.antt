@@ -148,6 +148,12 @@ any-body (chunk t body rest) = more tt (any-body rest)
 walk-in-order : (kind : Kind) (b : Before) (place : ℕ) (cs : Chunks) (parts : List Part) → walkParts kind b place cs ≡ fine parts → EachPart InOrder b parts
 walk-in-order kind b place cs parts e = walk-each kind InOrder _ (λ b t body part has j. chunk-in-order kind b t body part j) b place (any-body cs) parts e
 
+-- the latest polygons come out, and then others
+all-out : (early latest : List Polygon) {latest′ now now′ : List Polygon} → early ++ latest ≡ latest′ → now ≡ now′
+    → early ++ (latest ++ now) ≡ latest′ ++ now′
+all-out early latest {latest′} {now} {now′} both same =
+    sym (append-assoc early latest now) ∙ ap (λ (l : List Polygon). l ++ now) both ∙ ap (λ (l : List Polygon). latest′ ++ l) same
+
 -- With the layers the polygons `early` came out earlier, and the latest list may start elsewhere while it is missing.
 same-polygons : {b : Before} {parts parts′ : List Part} → EachPart InOrder b parts → LayersOut parts parts′ → (base base′ end : ℕ) (early latest latest′ : List Polygon)
     → (there (b .points) ≡ true → base ≡ base′)
@@ -160,13 +166,13 @@ same-polygons (one-more {part = pointList ps} o os) (kept r) base base′ end ea
 same-polygons (one-more {part = nameList ns} o os) (kept r) base base′ end early latest latest′ bases none-early both =
     same-polygons os r base base′ end early latest latest′ bases none-early both
 same-polygons (one-more {part = polygonList ps n} o os) (kept r) base base′ end early latest latest′ bases none-early both =
-    rw (← both, ← bases o) (sym (append-assoc early latest _) ∙ ap (λ (l : List Polygon). (early ++ latest) ++ l) (same-polygons os r base base end [] _ _ (λ e. refl) (λ e. refl) refl))
+    rw (← bases o) (all-out early latest both (same-polygons os r base base end [] _ _ (λ e. refl) (λ e. refl) refl))
 same-polygons (one-more {part = tagging t ts} o os) (kept r) base base′ end early latest latest′ bases none-early both =
     rw (← both, none-early o) (same-polygons os r base base′ end [] _ _ bases (λ e. refl) refl)
 same-polygons (one-more {part = surface s} o os) (kept r) base base′ end early latest latest′ bases none-early both =
     same-polygons os r base base′ end early latest latest′ bases none-early both
 same-polygons (one-more {part = layer} o os) (kept r) base base′ end early latest latest′ bases none-early both =
-    rw (← both) (sym (append-assoc early latest _) ∙ ap (λ (l : List Polygon). (early ++ latest) ++ l) (same-polygons os r end end end [] [] [] (λ e. refl) (λ e. refl) refl))
+    all-out early latest both (same-polygons os r end end end [] [] [] (λ e. refl) (λ e. refl) refl)
 same-polygons (one-more {part = layer} o os) (out r) base base′ end early latest latest′ bases none-early both =
     sym (append-assoc early latest _) ∙ same-polygons os r end base′ end (early ++ latest) [] latest′ (λ e. impossible cc) (λ e. impossible cc) (append-nil (early ++ latest) ∙ both)
 same-polygons (one-more {part = skippedChunk} o os) (kept r) base base′ end early latest latest′ bases none-early both =
