@@ -1,7 +1,7 @@
 -- DEMAND 1. "Whatever bytes come in, and whatever buffers we lend, each public entry answers and stops by itself. A refusal is a number from your table with
 -- the place of the chunk, and no table or output buffer of ours is changed by one byte." "For 4 to 15, 19 and 20 the place, demand 1's too, becomes the offset of
--- the first byte of the header, item or string at fault". That each call answers and stops is what a proved function means: no public entry asks anything of its
--- caller.
+-- the first byte of the header, item or string at fault"; of 22 it is "the index's first byte". That each call answers and stops is what a proved function means:
+-- no public entry asks anything of its caller.
 use Prim.Native.Nat.{ℕ, _≤_, _<_}
 use mathlib.Core.Path.{_≡_}
 use mathlib.Core.List.{List}
@@ -38,13 +38,13 @@ answerNumber number = eqb number 0 || ofReader number || eqb number noRoom
 
 -- a reader answers a for a file and the tables t, which come back as t′
 pub record ReadAnswers (file : List ℕ) (t : Tables) (a : Answer) (t′ : Tables) : Type 1 where
-  -- "A refusal is a number from your table": 1 to 15, 19 or 20 exactly when the rules refuse the file; of 16 demand 3 tells
+  -- "A refusal is a number from your table": 1 to 15, 19, 20 or 22 exactly when the rules refuse the file; of 16 demand 3 tells
   pub exactly : (ofReader (a .number) ≡ true) ↔ Refused file
   -- with the rules' own number and place
   pub told : (r : Refused file) → a ≡ refusal (r .number) (r .place)
   -- and there is no other number
   pub number : answerNumber (a .number) ≡ true
-  -- "For 4 to 15, 19 and 20 the place" is "the offset of the first byte of the header, item or string at fault"
+  -- "For 4 to 15, 19 and 20 the place" is "the offset of the first byte of the header, item or string at fault"; for 22, an item's fault, "the index's first byte"
   pub place-in-chunk : ofChunk (a .number) ≡ true → AtFault file (a .number) (a .place)
   -- and for 0, 1, 2, 3 and 16 the place 0
   pub place-of-file : ofChunk (a .number) ≡ false → a .place ≡ 0

@@ -11,11 +11,11 @@ use lib.ListN.{length, take, drop}
 use borrow.Author.Tests.{lt-ltb, ltb-true, le-leb, leb-true}
 use Rattle.format.specs.declared.Kind.{Kind}
 use Rattle.format.specs.declared.Kind.the-variants.{LWOB}
-use Rattle.format.specs.declared.Fault.the-variants.{NotForm}
+use Rattle.format.specs.declared.Fault.the-variants.{NotForm, LongIndex}
 use Rattle.format.specs.Bytes.{if_then_else_, _is_, between, number, every, all}
 use Rattle.format.specs.Limits.{fileLimit, lwo2VertexLimit}
 use Rattle.format.specs.Refusals.{numberOf}
-use Rattle.format.specs.Items.{Verdict, fine, fault, _andThen_}
+use Rattle.format.specs.Items.{Verdict, fine, fault, _andThen_, _>>=_, _or_unless_, item, uint, vx}
 use Rattle.format.specs.Chunks.{sizeOf, Chunks, finished, broken, chunk}
 use Rattle.format.specs.Mesh.{polygonOf, Polygon, FACE, PATCH, Tables, pointSize, polygonSize, recordSize}
 use Rattle.format.specs.Bodies.{Part, wholePoints}
@@ -147,3 +147,12 @@ surface-allowed points names p h =
 pub shortest-vx : (vxBytes 65279 ≡ 0xFE ∷ 0xFF ∷ []) × (vxBytes 65280 ≡ 0xFF ∷ 0 ∷ 0xFF ∷ 0 ∷ [])
 unfolding vxBytes bytes
 shortest-vx = (refl, refl)
+
+-- ---- "Refuse the long form for such an index": each index below 65,280, and no other
+
+pub long-form : (b c d : ℕ) → b < 256 → c < 256 → d < 256 → (at : ℕ) (rest : List ℕ) → let index = (b * 256 + c) * 256 + d in
+    vx at (255 ∷ b ∷ c ∷ d ∷ rest) ≡ (if leb 65280 index then fine (record { value = index; next = at + 4; left = rest }) else fault LongIndex at)
+unfolding vx uint item number _>>=_ _andThen_ _or_unless_
+long-form b c d b< c< d< at rest =
+    let low : ((((0 * 256 + 255) * 256 + b) * 256 + c) * 256 + d) % 16777216 ≡ (b * 256 + c) * 256 + d = omega arith in
+    rw (le-leb 4 (length (255 ∷ b ∷ c ∷ d ∷ rest)) (omega arith), low)

@@ -22,3 +22,4 @@ pub mod PartByTag
 pub mod OneNameList
 pub mod SizeBound
 pub mod Layers
+pub mod LongIndices

@@ -5,16 +5,16 @@ use mathlib.Core.Bool.{Bool, true, false}
 use Prim.Native.Nat.{ℕ, suc, _+_, _-_, _*_, _%_, _≤_, _<_}
 use native.Mathlib.Numerals.{add-one}
 use native.Mathlib.Omega.{arith}
-use lib.Dec.{ltb, eqb}
+use lib.Dec.{leb, ltb, eqb}
 use lib.IntN.{ℤ}
 use lib.ListN.{length, getD, take, drop, length-drop, drop-of-length-le, List·getD-eq-default}
 use lib.Seq.{drop-cons, drop-drop}
 use borrow.Author.Tests.{le-leb, lt-leb, eq-eqb, ne-eqb, ltb-true, ltb-false}
-use Rattle.format.specs.declared.Fault.the-variants.{ItemCut, NotFinite}
+use Rattle.format.specs.declared.Fault.the-variants.{ItemCut, LongIndex, NotFinite}
 use Rattle.format.specs.Bytes.{number, signed, finite}
-use Rattle.format.specs.Items.{Verdict, Got, fault, _andThen_, _>>=_, _or_unless_, item, uint, u2, u4, i2, vx, float, long}
-use Rattle.format.specs.Contracts.{ReadsAt, taking, got}
-use Rattle.format.proofs.ReaderSteps.{exact, exactly}
+use Rattle.format.specs.Items.{Verdict, Got, fault, _andThen_, _>>=_, item, uint, u2, u4, i2, float, firstLong, long, low24, longForm, vx}
+use Rattle.format.specs.Contracts.{itself, Says, ReadsAt, taking, got}
+use Rattle.format.proofs.ReaderSteps.{exact, exactly, further, on, off, given, good, bad, cut}
 
 -- ---- numbers of any width
 
@@ -72,25 +72,39 @@ module _ {s : List ℕ} {at : ℕ} where
   i2-whole r f = record { says = exact (rw (exactly (r .says), f)); moves = r .moves }
 
   pub float-cut : ReadsAt u4 (taking 4) s at (fault ItemCut at) → ReadsAt float (taking 4) s at (fault ItemCut at)
-  unfolding float _andThen_ _or_unless_
-  float-cut r = record { says = exact (rw (exactly (r .says))); moves = tt }
+  unfolding float
+  float-cut r = record { says = cut NotFinite finite (r .says); moves = tt }
 
   pub float-is : {v nx : ℕ} → ReadsAt u4 (taking 4) s at (got s v nx) → finite v ≡ true → ReadsAt float (taking 4) s at (got s v nx)
-  unfolding float _andThen_ _or_unless_
-  float-is r e = record { says = exact (rw (exactly (r .says), e)); moves = r .moves }
+  unfolding float
+  float-is r e = record { says = good NotFinite finite (r .says) e; moves = r .moves }
 
   pub float-bad : {v nx : ℕ} → ReadsAt u4 (taking 4) s at (got s v nx) → finite v ≡ false → ReadsAt float (taking 4) s at (fault NotFinite at)
-  unfolding float _andThen_ _or_unless_
-  float-bad r e = record { says = exact (rw (exactly (r .says), e)); moves = tt }
+  unfolding float
+  float-bad r e = record { says = bad NotFinite finite (r .says) e; moves = tt }
 
-  pub vx-cut : {b : ℕ} → b ≡ getD s at 0 → b ≡ 255 → ReadsAt u4 (taking 4) s at (fault ItemCut at) → ReadsAt vx (taking 2) s at (fault ItemCut at)
-  unfolding vx _andThen_ _>>=_
-  vx-cut e f r = record { says = exact (rw (is-long s at _ e, eq-eqb _ 255 f, exactly (r .says))); moves = tt }
+  -- the long form of an index
+  low24-is : {v nx : ℕ} → ReadsAt u4 (taking 4) s at (got s v nx) → Says low24 itself s at (got s (v % 16777216) nx)
+  low24-is r = on _ (r .says) (given refl)
 
-  pub vx-long : {b v nx : ℕ} → b ≡ getD s at 0 → b ≡ 255 → ReadsAt u4 (taking 4) s at (got s v nx) → ReadsAt vx (taking 2) s at (got s (v % 16777216) nx)
-  unfolding vx _andThen_ _>>=_
-  vx-long e f r = record { says = exact (rw (is-long s at _ e, eq-eqb _ 255 f, exactly (r .says))); moves = omega (arith, r .moves) }
+  pub long-cut : ReadsAt u4 (taking 4) s at (fault ItemCut at) → ReadsAt longForm (taking 4) s at (fault ItemCut at)
+  long-cut r = record { says = cut LongIndex (leb firstLong) (off _ (r .says)); moves = tt }
 
-  pub vx-short : {b : ℕ} {answer : Verdict (Got ℕ)} → b ≡ getD s at 0 → (b ≡ 255 → ⊥) → ReadsAt u2 (taking 2) s at answer → ReadsAt vx (taking 2) s at answer
-  unfolding vx
-  vx-short e f r = record { says = exact (rw (is-long s at _ e, ne-eqb _ 255 f) (sym (exactly (r .says)))); moves = r .moves }
+  pub long-is : {v nx : ℕ} → ReadsAt u4 (taking 4) s at (got s v nx) → 65280 ≤ v % 16777216 → ReadsAt longForm (taking 4) s at (got s (v % 16777216) nx)
+  long-is r large = record { says = good LongIndex (leb firstLong) (low24-is r) (le-leb firstLong _ large); moves = r .moves }
+
+  pub long-bad : {v nx : ℕ} → ReadsAt u4 (taking 4) s at (got s v nx) → v % 16777216 < 65280 → ReadsAt longForm (taking 4) s at (fault LongIndex at)
+  long-bad r small = record { says = bad LongIndex (leb firstLong) (low24-is r) (lt-leb firstLong _ small); moves = tt }
+
+  -- an index, by the form that its first byte tells
+  module _ {b : ℕ} {answer : Verdict (Got ℕ)} where
+    pub vx-long : b ≡ getD s at 0 → b ≡ 255 → ReadsAt longForm (taking 4) s at answer → ReadsAt vx (taking 2) s at answer
+    unfolding vx
+    vx-long e f r = record {
+      says = exact (rw (is-long s at _ e, eq-eqb _ 255 f) (sym (exactly (r .says))));
+      moves = further (taking 4) (taking 2) at at answer (λ v. omega arith) (r .moves);
+    }
+
+    pub vx-short : b ≡ getD s at 0 → (b ≡ 255 → ⊥) → ReadsAt u2 (taking 2) s at answer → ReadsAt vx (taking 2) s at answer
+    unfolding vx
+    vx-short e f r = record { says = exact (rw (is-long s at _ e, ne-eqb _ 255 f) (sym (exactly (r .says)))); moves = r .moves }

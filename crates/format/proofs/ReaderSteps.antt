@@ -69,7 +69,7 @@ module _ {A : Type 0} {r : Reader A} {s : List ℕ} {at : ℕ} where
   exactly w = keep-itself _ ∙ sym (w .is)
 
 -- from further back
-further : {A : Type 0} (size size′ : A → ℕ) (at next : ℕ) (v : Verdict (Got A)) → ((y : A) → at + size′ y ≤ next + size y) → Moves size next v
+pub further : {A : Type 0} (size size′ : A → ℕ) (at next : ℕ) (v : Verdict (Got A)) → ((y : A) → at + size′ y ≤ next + size y) → Moves size next v
     → Moves size′ at v
 further size size′ at next (fine g) h m = let l = h (g .value) in omega arith
 further size size′ at next (fault why p) h m = tt

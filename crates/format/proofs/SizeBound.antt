@@ -119,7 +119,7 @@ uses-i2 = uses-then _ (uses-uint 2) (λ n. uses-give _ (omega arith))
 
 uses-vx : Uses vx (λ v. 2) 0
 unfolding vx
-uses-vx = record { each = λ at b. uses-if (long b) (uses-then _ (uses-uint 4) (λ n. uses-give _ (omega arith))) (uses-uint 2) .each at b }
+uses-vx = record { each = λ at b. uses-if (long b) (uses-unless _ _ (uses-then _ (uses-uint 4) (λ n. uses-give _ (omega arith)))) (uses-uint 2) .each at b }
 
 uses-string : Uses string (λ n. length n + 1) 0
 unfolding string

@@ -6,7 +6,7 @@ use mathlib.Core.Bool.{Bool}
 use lib.ListN.{length, replicate}
 use lib.Dec.{ltb, eqb}
 use Rattle.format.specs.Bytes.{if_then_else_, spelt, joined}
-use Rattle.format.specs.Items.{stringSize}
+use Rattle.format.specs.Items.{firstLong, stringSize}
 use Rattle.format.specs.Mesh.{Point, Polygon, FACE, Surface, Name, Mesh, pointWords}
 
 -- ---- items as bytes
@@ -18,7 +18,7 @@ bytes (suc k) n = bytes k (n / 256) ++ (n % 256 ∷ [])
 
 -- "Shortest VX"
 unfoldable pub vxBytes : ℕ → List ℕ
-vxBytes n = if ltb n 65280 then bytes 2 n else bytes 4 (0xFF00_0000 + n)
+vxBytes n = if ltb n firstLong then bytes 2 n else bytes 4 (0xFF00_0000 + n)
 
 unfoldable pub stringBytes : Name → List ℕ
 stringBytes n = n ++ replicate (stringSize (length n) - length n) 0

@@ -6,7 +6,7 @@ use lib.ListN.{length, take, drop}
 use lib.Dec.{leb, eqb}
 use lib.IntN.{ℤ}
 use Rattle.format.specs.declared.Fault.{Fault}
-use Rattle.format.specs.declared.Fault.the-variants.{WrongLength, ItemCut, StringOpen, NotFinite}
+use Rattle.format.specs.declared.Fault.the-variants.{WrongLength, ItemCut, StringOpen, LongIndex, NotFinite}
 use Rattle.format.specs.Bytes.{if_then_else_, number, signed, finite, all, empty}
 
 -- ---- readers
@@ -88,14 +88,24 @@ i2 = do n ← u2; give (signed n)
 unfoldable pub float : Reader ℕ
 float = u4 or NotFinite unless finite
 
--- VX: "if the first byte is 255, four bytes, index in the low 24 bits; else two bytes. Reading goes on at the byte after the index. A small index in the long
--- form is accepted."
+-- VX: "if the first byte is 255, four bytes, index in the low 24 bits; else two bytes. Reading goes on at the byte after the index."
 abbrev pub long : List ℕ → Bool
 long [] = false
 long (b ∷ s) = eqb b 255
 
+abbrev pub low24 : Reader ℕ
+low24 = do n ← u4; give (n % 2 ^ 24)
+
+-- #107: "LWO2 says an index below 65,280 is written in two bytes. Refuse the long form for such an index wherever a VX is read, envelopes included." It is told
+-- "after an item that is cut and before 9 or 11 for the same item".
+abbrev pub firstLong : ℕ
+firstLong = 65280
+
+abbrev pub longForm : Reader ℕ
+longForm = low24 or LongIndex unless leb firstLong
+
 unfoldable pub vx : Reader ℕ
-vx at s = (if long s then (do n ← u4; give (n % 2 ^ 24)) else u2) at s
+vx at s = (if long s then longForm else u2) at s
 
 -- S0: "the name ends at its first zero byte, and one more zero follows if name and terminator together are odd"
 unfoldable pub toZero : List ℕ → ℕ

@@ -75,16 +75,16 @@ mesh-l = record {
   surfaces = missing ∷ [];
 }
 
--- The cases a to l in order, and that the file of l is "Canonical too"; then for #101 what starts at the place that is told: a number that is not there, at the
--- file's end, an index that is cut, the later of two equal names, a name without its pad, a sub-chunk's header with a bad pad, one with bytes left over, SIDE's
--- value, and the header of a BLOK that begins otherwise.
+-- The cases a to l in order, e with #107's refusal, and that the file of l is "Canonical too"; then for #101 what starts at the place that is told: a number that
+-- is not there, at the file's end, an index that is cut, the later of two equal names, a name without its pad, a sub-chunk's header with a bad pad, one with bytes
+-- left over, SIDE's value, and the header of a BLOK that begins otherwise.
 table : List (Input × Result)
 table =
     (file (hex "464f524d000000044c574f32"), file-gives (gives nothing 0 0))
     ∷ (file (hex "464f524d000000054c574f32"), file-gives (refused 3 0))
     ∷ (vx-item (hex "feff"), item-gives 65279 2)
     ∷ (vx-item (hex "ff00ff00"), item-gives 65280 4)
-    ∷ (vx-item (hex "ff000005"), item-gives 5 4)
+    ∷ (vx-item (hex "ff000005"), item-refused 22)
     ∷ (vx-item (hex "ff00"), item-refused 19)
     ∷ (surface-item (hex "8000"), surface-gives 32768 true)
     ∷ (lumi-body (hex "0080"), level-gives 0x3f00_0000)

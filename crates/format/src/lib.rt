@@ -9,6 +9,9 @@ pub const POLYGON_WORDS: usize = 3;
 
 pub const RECORD_WORDS: usize = 10;
 
+// The first index that needs four bytes. A smaller one has two.
+pub const FIRST_LONG_INDEX: u32 = 65280;
+
 // Each level of the colour of a surface that has none of its own.
 pub const MISSING_COLOUR: f32 = 1.0;
 
@@ -36,6 +39,7 @@ pub enum Fault {
     WrongLength,
     ItemCut,
     StringOpen,
+    LongIndex,
     NotFinite,
     VertexCount,
     VertexNumber,

@@ -7,9 +7,9 @@ use native.Mathlib.Omega.{arith}
 use lib.Dec.{ltb, eqb}
 use lib.ListN.{length, take, drop, replicate, length-append, length-replicate}
 use lib.Seq.{take-at, drop-at, take-append-seam, drop-append-seam}
-use borrow.Author.Tests.{le-leb, ne-eqb, eq-eqb, ltb-true, not-true}
+use borrow.Author.Tests.{le-leb, ne-eqb, eq-eqb, ltb-true, ltb-false, not-true}
 use Rattle.format.specs.Bytes.{if_then_else_, number, finite, all, joined}
-use Rattle.format.specs.Items.{Reader, _andThen_, _>>=_, item, uint, float, long, vx, toZero, stringSize, string}
+use Rattle.format.specs.Items.{Reader, _andThen_, _>>=_, _or_unless_, item, uint, float, firstLong, long, vx, toZero, stringSize, string}
 use Rattle.format.specs.Canonical.{bytes, vxBytes, stringBytes}
 use Rattle.format.specs.Written.{noZero}
 use Rattle.format.proofs.Facts.{all-first, all-rest, finite-bits}
@@ -59,10 +59,10 @@ reads-floats f (x ∷ xs) known h =
 -- ---- VX
 
 pub reads-vx : (n : ℕ) → n < 2 ^ 24 → ReadsAs vx (vxBytes n) n
-unfolding vx vxBytes bytes _>>=_ _andThen_
-reads-vx n small = go (ltb n 65280) refl
+unfolding vx vxBytes bytes _>>=_ _andThen_ _or_unless_
+reads-vx n small = go (ltb n firstLong) refl
   where
-    go : (b : Bool) → ltb n 65280 ≡ b → ReadsAs vx (if b then bytes 2 n else bytes 4 (0xFF00_0000 + n)) n
+    go : (b : Bool) → ltb n firstLong ≡ b → ReadsAs vx (if b then bytes 2 n else bytes 4 (0xFF00_0000 + n)) n
     go true e = record {
       here = λ at rest.
           let below : n < 65280 = ltb-true _ _ e in
@@ -73,7 +73,8 @@ reads-vx n small = go (ltb n 65280) refl
       here = λ at rest.
           let high : (0xFF00_0000 + n) / 256 / 256 / 256 % 256 ≡ 255 = omega arith in
           let same : (0xFF00_0000 + n) % 2 ^ 24 ≡ n = omega arith in
-          rw (eq-eqb ((0xFF00_0000 + n) / 256 / 256 / 256 % 256) 255 high, reads-uint 4 (0xFF00_0000 + n) (omega arith) .here at rest, same);
+          let large : firstLong ≤ n = ltb-false n firstLong e in
+          rw (eq-eqb ((0xFF00_0000 + n) / 256 / 256 / 256 % 256) 255 high, reads-uint 4 (0xFF00_0000 + n) (omega arith) .here at rest, same, le-leb firstLong n large);
     }
 
 -- ---- strings

@@ -2,6 +2,7 @@ pub mod GoodPolygons
 pub mod Readers
 pub mod Reading
 pub mod Items
+pub mod OneForm
 pub mod Chunks
 pub mod Tiles
 pub mod Bodies

@@ -1,6 +1,6 @@
 -- What every reader obeys, by one induction over how readers are made: a fault is a chunk's, lies within the chunk and is told where what has it starts, and what
 -- is read of bytes is good.
-use Prim.Native.Nat.{ℕ, zero, suc, _+_, _-_, _*_, _%_, _^_, _≤_}
+use Prim.Native.Nat.{ℕ, zero, suc, _+_, _-_, _*_, _%_, _≤_}
 use mathlib.Core.Path.{_≡_, refl, ap, _∙_}
 use mathlib.Core.List.{List, [], _∷_, _++_, map}
 use mathlib.Core.Bool.{Bool, true, false, not, _&&_, and-eq-true-iff, false≢true}
@@ -18,7 +18,7 @@ use Rattle.format.specs.declared.Fault.the-variants.{BadHeader, WrongLength, It
 use Rattle.format.specs.Bytes.{if_then_else_, _is_, byte, between, number, signed, absolute, negative, finite, over255, all, empty, every, joined}
 use Rattle.format.specs.Limits.{surfaceLimit, lwo2VertexLimit, lwobVertexLimit}
 use Rattle.format.specs.Refusals.{numberOf, ofChunk}
-use Rattle.format.specs.Items.{Verdict, fine, fault, Got, Reader, _>>=_, _andThen_, give, _or_unless_, _followedBy_, whole, times, upTo, many, item, uint, u2, u4, i2, float, vx, long, string, toZero, stringSize}
+use Rattle.format.specs.Items.{Verdict, fine, fault, Got, Reader, _>>=_, _andThen_, give, _or_unless_, _followedBy_, whole, times, upTo, many, item, uint, u2, i2, float, long, longForm, vx, string, toZero, stringSize}
 use Rattle.format.specs.Chunks.{Chunk, headerOf, ofLength, sizeOf, lengthOf, wellFormed, chunkOf, sub, unjudged}
 use Rattle.format.specs.Mesh.{Point, pointWords, Polygon, FACE, PATCH, Name}
 use Rattle.format.specs.Surfaces.{Value, value, levelTag, floatLevel, lwobValue, lwo2Value, sideNumber, attribute, blockType, blockHeader, block, held, nested, surfaceDepth}
@@ -28,7 +28,7 @@ use Rattle.format.specs.Written.{goodPolygon, noZero, goodNames}
 use Rattle.format.proofs.Facts.{impossible, both, every-at, all-first, all-rest, all-append-true, all-drop, all-part, between-true}
 use Rattle.format.proofs.ListedTags.{judge-cases}
 use Rattle.laws.specs.FaultStarts.{OneItem, FaultStarts, BodyFaultStarts}
-use Rattle.laws.specs.FaultStarts.OneItem.{unsigned, signed as signed-item, index as index-item, text, asked as asked-item}
+use Rattle.laws.specs.FaultStarts.OneItem.{unsigned, signed as signed-item, long-index, index as index-item, text, asked as asked-item}
 use Rattle.laws.specs.FaultStarts.FaultStarts.{item-cut, string-open, not-allowed, bad-header, left-over, wrong-length, empty-block, other-first, first, second, asked, index, entry, entries, next-name, names, of-length, in-sub-chunk, in-block, first-sub, later-sub}
 use Rattle.laws.specs.FaultStarts.BodyFaultStarts.{out-of-order, left-over as bytes-over, in-body}
 use Rattle.laws.proofs.GoodPolygons.{is-good as polygon-is-good}
@@ -257,11 +257,14 @@ module _ {B : Type 0} {most : ℕ} where
   obeys-float = obeys-unless _ finite refl (unsigned 4) (obeys-uint 4)
 
   obeys-vx : Obeys B most any vx
-  unfolding vx
+  unfolding vx numberOf
   obeys-vx = record { each = λ at b i. obeyed-by (either b) at b i (λ why p f. index f) }
     where
-      either : (b : List ℕ) → Obeys B most any (if long b then (do n ← u4; give (n % 2 ^ 24)) else u2)
-      either b = obeys-if (long b) (λ e. obeys-then _ (obeys-uint 4) (λ n h. obeys-give (λ h. refl))) (λ e. obeys-uint 2)
+      four : Obeys B most any longForm
+      four = obeys-more (obeys-unless {has = any} _ _ refl long-index (obeys-then _ (obeys-uint 4) (λ n h. obeys-give (λ h. refl)))) (λ n h e. refl)
+
+      either : (b : List ℕ) → Obeys B most any (if long b then longForm else u2)
+      either b = obeys-if (long b) (λ e. four) (λ e. obeys-uint 2)
 
   obeys-string : Obeys B most noZero string
   unfolding string numberOf

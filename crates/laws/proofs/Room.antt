@@ -9,7 +9,7 @@ use lib.Dec.{leb}
 use lib.ListN.{length}
 use borrow.Author.Tests.{le-leb, leb-true}
 use Rattle.format.specs.declared.Fault.{Fault}
-use Rattle.format.specs.declared.Fault.the-variants.{FileTooLong, NotForm, FormLength, BadHeader, OutOfOrder, WrongLength, ItemCut, StringOpen, NotFinite, VertexCount, VertexNumber, SurfaceNumber, PolygonNumber, PolygonType, BadName, DetailSurface, SurfaceValue}
+use Rattle.format.specs.declared.Fault.the-variants.{FileTooLong, NotForm, FormLength, BadHeader, OutOfOrder, WrongLength, ItemCut, StringOpen, LongIndex, NotFinite, VertexCount, VertexNumber, SurfaceNumber, PolygonNumber, PolygonType, BadName, DetailSurface, SurfaceValue}
 use Rattle.format.specs.Bytes.{if_then_else_, every}
 use Rattle.format.specs.Refusals.{numberOf, ofReader, noRoom}
 use Rattle.format.specs.Items.{Verdict, fine, fault}
@@ -76,6 +76,7 @@ number-range OutOfOrder = refl
 number-range WrongLength = refl
 number-range ItemCut = refl
 number-range StringOpen = refl
+number-range LongIndex = refl
 number-range NotFinite = refl
 number-range VertexCount = refl
 number-range VertexNumber = refl

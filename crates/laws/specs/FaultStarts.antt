@@ -1,6 +1,6 @@
 -- Where what has a fault starts: "the offset of the first byte of the header, item or string at fault". All that stands before it is read and is fine, and the
 -- reading of it begins at its first byte. Nothing here goes by the place that a reader tells.
-use Prim.Native.Nat.{ℕ, suc, _+_, _%_, _^_, _<_}
+use Prim.Native.Nat.{ℕ, suc, _+_, _<_}
 use mathlib.Core.Path.{_≡_}
 use mathlib.Core.List.{List, [], _∷_, _++_}
 use mathlib.Core.Bool.{Bool, true, false}
@@ -11,7 +11,7 @@ use Rattle.format.specs.declared.Container.the-variants.{Blok}
 use Rattle.format.specs.declared.Fault.{Fault}
 use Rattle.format.specs.declared.Fault.the-variants.{BadHeader, OutOfOrder, WrongLength, ItemCut, StringOpen, SurfaceValue}
 use Rattle.format.specs.Bytes.{if_then_else_, empty}
-use Rattle.format.specs.Items.{Verdict, fine, Got, Reader, _>>=_, give, _or_unless_, _followedBy_, upTo, many, item, uint, u2, u4, i2, vx, long, string}
+use Rattle.format.specs.Items.{Verdict, fine, Got, Reader, _>>=_, give, _or_unless_, _followedBy_, upTo, many, item, uint, u2, i2, long, low24, longForm, vx, string}
 use Rattle.format.specs.Chunks.{Chunk, headerOf, wellFormed, chunkOf, ofLength, sub}
 use Rattle.format.specs.Mesh.{Name}
 use Rattle.format.specs.Surfaces.{Value, blockType, blockHeader, block, attribute, held}
@@ -22,6 +22,7 @@ use Rattle.format.specs.Rules.{when_read_}
 pub data OneItem : (A : Type 0) → Reader A → Type 1 where
   unsigned : (n : ℕ) → OneItem ℕ (uint n)
   signed : OneItem ℤ i2
+  long-index : OneItem ℕ low24
   index : OneItem ℕ vx
   text : OneItem Name string
   asked : (A : Type 0) (r : Reader A) (why : Fault) (ok : A → Bool) → OneItem A r → OneItem A (r or why unless ok)
@@ -59,7 +60,7 @@ pub data FaultStarts : (A : Type 0) (r : Reader A) (at : ℕ) (s : List ℕ) (wh
   asked : (A : Type 0) (r : Reader A) (other : Fault) (ok : A → Bool) {at p : ℕ} {s : List ℕ} {why : Fault} → FaultStarts A r at s why p
       → FaultStarts A (r or other unless ok) at s why p
   -- in the two or four bytes of a VX
-  index : {at p : ℕ} {s : List ℕ} {why : Fault} → FaultStarts ℕ (if long s then (do n ← u4; give (n % 2 ^ 24)) else u2) at s why p
+  index : {at p : ℕ} {s : List ℕ} {why : Fault} → FaultStarts ℕ (if long s then longForm else u2) at s why p
       → FaultStarts ℕ vx at s why p
   -- in one of several entries, or names
   entry : (A : Type 0) (r : Reader A) (most : ℕ) {at p b : ℕ} {s : List ℕ} {why : Fault} → FaultStarts (List A) (r followedBy upTo most r) at (b ∷ s) why p

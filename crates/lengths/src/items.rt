@@ -9,13 +9,14 @@ ghost use Rattle.format.specs.Chunks.{sizeOf};
 ghost use Rattle.format.specs.Canonical.{vxBytes};
 ghost use Rattle.format.specs.Contracts.{total};
 ghost use Rattle.lengths.specs.Sizes.{Counted, unlessNone};
+use format::FIRST_LONG_INDEX;
 use words::wide;
 
 // The shortest VX.
 pub fn vx_length(n: usize) -> usize
     ensures { λ r. ⌜ Counted r (length (vxBytes n)) 4 ⌝ }
 {
-    if n < 65280 { 2 } else { 4 }
+    if n < FIRST_LONG_INDEX as usize { 2 } else { 4 }
 }
 
 // A name of n bytes with its one or two zeros.

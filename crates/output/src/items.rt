@@ -10,6 +10,7 @@ ghost use Rattle.format.specs.Canonical.{bytes, vxBytes, stringBytes};
 ghost use Rattle.format.specs.Written.{pieces};
 ghost use Rattle.format.specs.Contracts.{total};
 ghost use Rattle.output.specs.Outputs.{Wrote};
+use format::FIRST_LONG_INDEX;
 use words::wide;
 
 // The low two bytes of a number, the high one first.
@@ -36,7 +37,7 @@ pub fn put_vx(out: &mut [u8], at: usize, n: u32) -> usize
     requires { ⌜ (n < 2 ^ 24) × (at + length (vxBytes n) ≤ length (now out)) ⌝ }
     ensures { λ r. ⌜ Wrote (now (out .entry)) at (vxBytes n) (now (out .exit)) r ⌝ }
 {
-    if n < 65280 {
+    if n < FIRST_LONG_INDEX {
         put_u2(out, at, n)
     } else {
         put_u4(out, at, 0xFF00_0000 + n)

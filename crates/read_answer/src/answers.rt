@@ -20,6 +20,7 @@ fn number_of(why: Fault) -> u32
         Fault::WrongLength => 6,
         Fault::ItemCut => 19,
         Fault::StringOpen => 20,
+        Fault::LongIndex => 22,
         Fault::NotFinite => 7,
         Fault::VertexCount => 8,
         Fault::VertexNumber => 9,

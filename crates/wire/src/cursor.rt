@@ -4,8 +4,9 @@ ghost use Prim.Native.Nat.{_+_, _-_, _≤_, _<_};
 ghost use lib.Dec.{ltb};
 ghost use lib.ListN.{length, getD, take, drop};
 ghost use Rattle.format.specs.Bytes.{signed, number};
-ghost use Rattle.format.specs.Items.{u2, u4, vx, float, toZero};
+ghost use Rattle.format.specs.Items.{u2, u4, longForm, vx, float, toZero};
 ghost use Rattle.wire.specs.Contracts.{signedSurfaceOf, faultOf, NumberAt, I2At, SignedSurfaceAt, ItemAt, TextAt};
+use format::FIRST_LONG_INDEX;
 use format::Fault;
 use words::is_finite;
 
@@ -197,15 +198,27 @@ impl Cursor {
         SignedSurfaceRead::Got(signed_surface(z), next)
     }
 
-    // Where the first byte is 255 there are four bytes, with the index in the low 24 bits, and two otherwise.
+    // An index of four bytes, in the low 24 bits. One that two bytes hold has no business there.
+    fn long_index(self, s: &[u8]) -> Item
+        ensures { λ r. ⌜ ItemAt longForm 4 (now (s .entry)) (self .at) r ⌝ }
+    {
+        let Number::Got(n, next) = self.u4(s) else {
+            return Item::Stop(Fault::ItemCut);
+        };
+        let index = n % 16777216;
+        if index < FIRST_LONG_INDEX {
+            Item::Stop(Fault::LongIndex)
+        } else {
+            Item::Got(index, next)
+        }
+    }
+
+    // Where the first byte is 255 there are four bytes, and two otherwise.
     pub fn vx(self, s: &[u8]) -> Item
         ensures { λ r. ⌜ ItemAt vx 2 (now (s .entry)) (self .at) r ⌝ }
     {
         if byte(s, self.at) == 255 {
-            let Number::Got(n, next) = self.u4(s) else {
-                return Item::Stop(Fault::ItemCut);
-            };
-            return Item::Got(n % 16777216, next);
+            return self.long_index(s);
         }
         let Number::Got(n, next) = self.u2(s) else {
             return Item::Stop(Fault::ItemCut);
