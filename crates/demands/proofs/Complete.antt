@@ -1,6 +1,6 @@
 -- The demands decide a call: the rules refuse the file, or give a mesh with room or without; the tables are no mesh, or its file is too long, too long for the
 -- output, or fits. In each case one of the statements has the whole answer, and one the whole of what is lent.
-use Prim.Native.Nat.{ℕ, _≤_, _<_}
+use Prim.Native.Nat.{ℕ}
 use mathlib.Core.Path.{_≡_, refl, sym, ap, _∙_}
 use mathlib.Core.List.{List}
 use mathlib.Core.Bool.{Bool, true, false, not, false≢true}

@@ -18,7 +18,7 @@ use Rattle.format.specs.Rules.{kindOf, form, gives, rules}
 use Rattle.format.specs.Canonical.{bytes}
 use Rattle.format.proofs.Verdicts.{then-fine, chosen, passed}
 use Rattle.format.proofs.CanonicalLengths.{length-bytes}
-use Rattle.laws.proofs.Items.{number-bytes}
+use Rattle.laws.proofs.Numbers.{number-bytes}
 use Rattle.laws.proofs.Chunks.{chunkIn, reads-whole, front}
 use Rattle.laws.proofs.Tiles.{inFront, next-chunk}
 use Rattle.laws.proofs.Form.{outcomeOf, rules-of}

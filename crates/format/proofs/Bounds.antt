@@ -21,7 +21,7 @@ use Rattle.format.specs.Mesh.{polygonOf, Polygon, FACE, PATCH, Tables, p
 use Rattle.format.specs.Bodies.{Part, wholePoints}
 use Rattle.format.specs.Rules.{Before, start, after, judge, located, PartAt, walk, kindOf, form, judged, outcome, refused, rules}
 use Rattle.format.specs.Canonical.{bytes, vxBytes, canonical}
-use Rattle.format.specs.Written.{meshFrom, wholeEntries, goodPolygon, isMesh, Written, says, written}
+use Rattle.format.specs.Written.{meshFrom, wholeEntries, goodPolygon, isMesh, says, written}
 use Rattle.format.proofs.Facts.{impossible, every-at}
 
 -- ---- "File read or written: at most 16,777,216 bytes."

@@ -7,7 +7,7 @@ use lib.ListN.{length, drop}
 use lib.Dec.{leb}
 use Rattle.format.specs.Bytes.{if_then_else_, byte, every, all}
 use Rattle.format.specs.Refusals.{noRoom}
-use Rattle.format.specs.Mesh.{Mesh, pointSize, polygonSize, recordSize, Tables, tables, Needs, needs}
+use Rattle.format.specs.Mesh.{pointSize, polygonSize, recordSize, Tables, tables, Needs, needs}
 use Rattle.format.specs.Rules.{Outcome, refused, gives, rules}
 
 -- "the number (0 accepted), the place, five needs (points, polygons, vertices, names, name bytes), the skipped count and the detail count"

@@ -5,7 +5,6 @@ use mathlib.Core.Path.{_≡_, refl}
 use mathlib.Core.Bool.{Bool, true}
 use mathlib.Core.List.{List, [], _∷_, _++_, map}
 use lib.ListN.{length}
-use lib.IntN.{ℤ}
 use lib.Dec.{leb}
 use Rattle.format.specs.declared.Kind.the-variants.{LWOB}
 use Rattle.format.specs.Bytes.{if_then_else_, absolute, negative, spelt, number, tagNumber, finite, over255, over256, every, all, sum, joined, same, amongst}

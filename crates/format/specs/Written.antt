@@ -8,7 +8,7 @@ use lib.Dec.{leb, ltb, eqb}
 use Rattle.format.specs.Bytes.{if_then_else_, between, finite, every, all, sum, same}
 use Rattle.format.specs.Limits.{fileLimit, lwo2VertexLimit, entryLimit, surfaceLimit}
 use Rattle.format.specs.Refusals.{noRoom, notMesh, tooLong}
-use Rattle.format.specs.Mesh.{Point, Polygon, FACE, PATCH, Surface, Name, Mesh, missing, Tables, pointWords, levels, surfaceWords, pointSize, polygonSize, recordSize, word, pointFrom, polygonFrom, surfaceFrom}
+use Rattle.format.specs.Mesh.{Polygon, FACE, PATCH, Surface, Name, Mesh, missing, Tables, pointWords, levels, surfaceWords, pointSize, polygonSize, recordSize, word, pointFrom, polygonFrom, surfaceFrom}
 use Rattle.format.specs.Surfaces.{sideNumber}
 use Rattle.format.specs.Bodies.{newName}
 use Rattle.format.specs.Answer.{over}

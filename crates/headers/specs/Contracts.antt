@@ -9,7 +9,6 @@ use Rattle.format.specs.Bytes.{between, all}
 use Rattle.format.specs.Items.{Verdict, fault, Got}
 use Rattle.format.specs.Chunks.{Chunk, lengthOf, chunkOf}
 use Rattle.format.specs.Contracts.{got, ReadsAt, taking}
-use Rattle.wire.specs.declared.cursor.Cursor.{Cursor}
 use Rattle.headers.specs.declared.Header.{Header}
 
 -- A chunk's body is lent as the slice up to its end, `&s[..end]`, so that its places stay what they are.

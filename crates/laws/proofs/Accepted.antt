@@ -15,7 +15,7 @@ use Rattle.format.specs.declared.Fault.the-variants.{BadHeader}
 use Rattle.format.specs.Bytes.{if_then_else_, _is_, spelt, number, f32One, byte, between, finite, every, all, joined, same}
 use Rattle.format.specs.Limits.{surfaceLimit}
 use Rattle.format.specs.Items.{Verdict, fine, fault, Got}
-use Rattle.format.specs.Chunks.{Chunk, sizeOf, lengthOf, wellFormed, chunkOf, Chunks, chunk, link, split, chunks}
+use Rattle.format.specs.Chunks.{Chunk, sizeOf, lengthOf, wellFormed, chunkOf, Chunks, link, split, chunks}
 use Rattle.format.specs.Mesh.{pointWords, Polygon, polygonOf, Name, Surface, missing, levels, Mesh}
 use Rattle.format.specs.Surfaces.{Value, sideNumber, lastOf, bit, recordOf}
 use Rattle.format.specs.Bodies.{Part, SurfaceChunk, pointList, nameList, polygonList, tagging, surface, layer, skippedChunk}

@@ -6,21 +6,21 @@ use mathlib.Core.List.{List, [], _∷_, _++_, map, append-nil, append-assoc}
 use mathlib.Core.Bool.{Bool, true, false, _&&_, _||_, and-eq-true-iff}
 use native.Mathlib.Omega.{arith}
 use lib.Dec.{leb, ltb, eqb}
-use lib.ListN.{length, take, drop, replicate, length-append, length-replicate}
-use borrow.Author.Tests.{le-leb, lt-ltb, eq-eqb, ltb-true, leb-true, eqb-true, eqb-false}
+use lib.ListN.{length, take, drop, length-append}
+use borrow.Author.Tests.{le-leb, lt-ltb, eq-eqb, ltb-true, eqb-true, eqb-false}
 use Rattle.format.specs.declared.Fault.the-variants.{VertexCount, VertexNumber, SurfaceNumber, PolygonNumber, PolygonType, BadName, SurfaceValue}
 use Rattle.format.specs.Bytes.{if_then_else_, number, spelt, finite, all, joined}
-use Rattle.format.specs.Limits.{lwo2VertexLimit, surfaceLimit}
-use Rattle.format.specs.Items.{Reader, _andThen_, _>>=_, give, _or_unless_, u2, u4, uint, vx, stringSize}
+use Rattle.format.specs.Limits.{surfaceLimit}
+use Rattle.format.specs.Items.{Reader, _>>=_, give, _or_unless_, u2, u4, uint, vx}
 use Rattle.format.specs.declared.Kind.the-variants.{LWO2}
 use Rattle.format.specs.declared.Container.the-variants.{Surf}
 use Rattle.format.specs.Chunks.{sub, fixed}
 use Rattle.format.specs.Mesh.{Point, pointWords, pointFrom, Polygon, polygonOf, FACE, PATCH, Name, Surface, levels}
 use Rattle.format.specs.Surfaces.{Value, value, sideNumber, lwo2Value, held, nested, lastOf, recordOf}
 use Rattle.format.specs.Bodies.{Part, SurfaceChunk, pointList, nameList, polygonList, tagging, surface, point, wholePoints, pointsBody, newName, name, namesAfter, namesBody, vertex, countBits, lwo2Vertices, polygon, polygonType, polygonKind, polygonsBody, pair, taggingBody, surfaceStrings, surfaceBody}
-use Rattle.format.specs.Canonical.{bytes, vxBytes, stringBytes, chunkBytes, pointBytes, polygonBytes, typeOf, pairsOf, pairBytes, levelBytes, valueChunks, surfaceBytes}
+use Rattle.format.specs.Canonical.{bytes, vxBytes, stringBytes, pointBytes, polygonBytes, typeOf, pairsOf, pairBytes, levelBytes, valueChunks, surfaceBytes}
 use Rattle.format.specs.Written.{goodPolygon, noZero, goodNames}
-use Rattle.format.proofs.Facts.{every-at, all-first, all-rest, all-part, between-true, length-each}
+use Rattle.format.proofs.Facts.{all-first, all-rest, all-part, length-each}
 use Rattle.laws.proofs.Reading.{ReadsAs, Ends, ends, reads-give, reads-then, ends-then, reads-as, ends-as, reads-unless, Row, none, more, reads-times, ends-many, rows, rows-same}
 use Rattle.format.proofs.CanonicalLengths.{length-bytes, length-string, length-point, length-vx}
 use Rattle.laws.proofs.Items.{reads-item, reads-uint, floats, reads-floats, reads-vx, reads-string}

@@ -19,7 +19,8 @@ use Rattle.format.proofs.Facts.{every-at}
 use Rattle.format.proofs.Verdicts.{chosen}
 use Rattle.laws.proofs.Reading.{got, ReadsAs, Ends, wholly, Row, more}
 use Rattle.format.proofs.CanonicalLengths.{length-bytes}
-use Rattle.laws.proofs.Items.{number-bytes, zeros}
+use Rattle.laws.proofs.Numbers.{number-bytes}
+use Rattle.laws.proofs.Items.{zeros}
 
 -- ---- one whole chunk
 

@@ -21,7 +21,7 @@ use Rattle.format.specs.Contracts.{walkParts}
 use Rattle.format.specs.Canonical.{bytes, formBytes}
 use Rattle.format.proofs.Facts.{impossible}
 use Rattle.format.proofs.CanonicalLengths.{length-form}
-use Rattle.laws.proofs.Items.{number-bytes}
+use Rattle.laws.proofs.Numbers.{number-bytes}
 
 -- ---- a file as `formBytes` writes it
 

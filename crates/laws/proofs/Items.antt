@@ -1,7 +1,7 @@
 -- The items: each is read back from the bytes that it is written as, in front of any rest.
-use Prim.Native.Nat.{ℕ, zero, suc, _+_, _-_, _*_, _/_, _%_, _^_, _≤_, _<_}
+use Prim.Native.Nat.{ℕ, zero, suc, _+_, _-_, _/_, _%_, _^_, _≤_, _<_}
 use mathlib.Core.Path.{_≡_, refl, ap, _∙_}
-use mathlib.Core.List.{List, [], _∷_, _++_, map, foldl-append, append-assoc}
+use mathlib.Core.List.{List, [], _∷_, _++_, map, append-assoc}
 use mathlib.Core.Bool.{Bool, true, false}
 use native.Mathlib.Omega.{arith}
 use lib.Dec.{ltb, eqb}
@@ -14,6 +14,7 @@ use Rattle.format.specs.Canonical.{bytes, vxBytes, stringBytes}
 use Rattle.format.specs.Written.{noZero}
 use Rattle.format.proofs.Facts.{all-first, all-rest, finite-bits}
 use Rattle.format.proofs.CanonicalLengths.{length-bytes}
+use Rattle.laws.proofs.Numbers.{number-bytes}
 use Rattle.laws.proofs.Reading.{ReadsAs, reads-then, reads-as, reads-unless}
 
 -- ---- numbers
@@ -25,12 +26,6 @@ reads-item n w long = record {
       let enough : n ≤ length (w ++ rest) = omega (arith, length-append w rest) in
       rw (le-leb n (length (w ++ rest)) enough, take-at w rest n long, drop-at w rest n long, long);
 }
-
-pub number-bytes : (k n : ℕ) → n < 256 ^ k → number (bytes k n) ≡ n
-unfolding number bytes
-number-bytes zero n small = omega arith
-number-bytes (suc k) n small =
-    foldl-append (λ n b. n * 256 + b) 0 (bytes k (n / 256)) (n % 256 ∷ []) ∙ omega (arith, number-bytes k (n / 256) (omega arith))
 
 pub reads-uint : (k n : ℕ) → n < 256 ^ k → ReadsAs (uint k) (bytes k n) n
 unfolding uint

@@ -1,3 +1,4 @@
+pub mod Numbers
 pub mod GoodPolygons
 pub mod Readers
 pub mod Reading

@@ -13,7 +13,6 @@ use Rattle.format.specs.Limits.{nameLimit}
 use Rattle.format.specs.Mesh.{Point, pointWords, Polygon, Name, Surface, Mesh}
 use Rattle.format.specs.Items.{fine}
 use Rattle.format.specs.declared.Kind.the-variants.{LWO2}
-use Rattle.format.specs.Surfaces.{recordOf}
 use Rattle.format.specs.Bodies.{Part, SurfaceChunk, pointList, nameList, polygonList, surface, newName}
 use Rattle.format.specs.Rules.{added, pointsOf, namesOf, detailsOf, skippedOf, surfacesOf, standing, recordFor, meshOf, gives}
 use Rattle.format.specs.Canonical.{pairsOf, runs}

@@ -11,7 +11,7 @@ use lib.Seq.{append-snoc}
 use borrow.Author.Tests.{eqb-true, eq-eqb}
 use Rattle.format.specs.Bytes.{if_then_else_, spelt, number, all, joined, same}
 use Rattle.format.specs.Mesh.{Point, Polygon, polygonOf, Name, Surface, Mesh}
-use Rattle.format.specs.Bodies.{Part, pointList, nameList, polygonList, tagging, surface}
+use Rattle.format.specs.Bodies.{Part, pointList, nameList, surface}
 use Rattle.format.specs.Rules.{from, retag, tagged, polygonsIn}
 use Rattle.format.specs.Canonical.{pairsOf, ahead, runs}
 use Rattle.format.proofs.Facts.{all-first, all-rest}

@@ -1,6 +1,6 @@
 -- What every reader obeys, by one induction over how readers are made: a fault is a chunk's, lies within the chunk and is told where what has it starts, and what
 -- is read of bytes is good.
-use Prim.Native.Nat.{ℕ, zero, suc, _+_, _-_, _*_, _%_, _≤_}
+use Prim.Native.Nat.{ℕ, zero, suc, _+_, _-_, _%_, _≤_}
 use mathlib.Core.Path.{_≡_, refl, ap, _∙_}
 use mathlib.Core.List.{List, [], _∷_, _++_, map}
 use mathlib.Core.Bool.{Bool, true, false, not, _&&_, and-eq-true-iff, false≢true}
@@ -15,7 +15,7 @@ use Rattle.format.specs.declared.Container.{Container}
 use Rattle.format.specs.declared.Container.the-variants.{Surf, Blok, Attributes}
 use Rattle.format.specs.declared.Fault.{Fault}
 use Rattle.format.specs.declared.Fault.the-variants.{BadHeader, WrongLength, ItemCut, StringOpen, SurfaceValue}
-use Rattle.format.specs.Bytes.{if_then_else_, _is_, byte, between, number, signed, absolute, negative, finite, over255, all, empty, every, joined}
+use Rattle.format.specs.Bytes.{if_then_else_, _is_, byte, between, number, signed, absolute, negative, finite, over255, all, empty, joined}
 use Rattle.format.specs.Limits.{surfaceLimit, lwo2VertexLimit, lwobVertexLimit}
 use Rattle.format.specs.Refusals.{numberOf, ofChunk}
 use Rattle.format.specs.Items.{Verdict, fine, fault, Got, Reader, _>>=_, _andThen_, give, _or_unless_, _followedBy_, whole, times, upTo, many, item, uint, u2, i2, float, long, longForm, vx, string, toZero, stringSize}
@@ -31,6 +31,7 @@ use Rattle.laws.specs.FaultStarts.{OneItem, FaultStarts, BodyFaultStarts
 use Rattle.laws.specs.FaultStarts.OneItem.{unsigned, signed as signed-item, long-index, index as index-item, text, asked as asked-item}
 use Rattle.laws.specs.FaultStarts.FaultStarts.{item-cut, string-open, not-allowed, bad-header, left-over, wrong-length, empty-block, other-first, first, second, asked, index, entry, entries, next-name, names, of-length, in-sub-chunk, in-block, first-sub, later-sub}
 use Rattle.laws.specs.FaultStarts.BodyFaultStarts.{out-of-order, left-over as bytes-over, in-body}
+use Rattle.laws.proofs.Numbers.{digits}
 use Rattle.laws.proofs.GoodPolygons.{is-good as polygon-is-good}
 use Rattle.format.proofs.Levels.{colour-finite, level-finite}
 
@@ -190,14 +191,7 @@ obeys-whole {A} {B} {most} header {r} {good} w at b i = by (r at b) refl (w .eac
 
 -- two bytes
 small : (bs : List ℕ) → length bs ≡ 2 → all byte bs ≡ true → ltb (number bs) 65536 ≡ true
-unfolding number
-small [] l e = absurd (omega arith)
-small (a ∷ []) l e = absurd (omega arith)
-small (a ∷ b ∷ []) l e =
-    let high = ltb-true a 256 (all-first byte a (b ∷ []) e) in
-    let low = ltb-true b 256 (all-first byte b [] (all-rest byte a (b ∷ []) e)) in
-    lt-ltb ((0 * 256 + a) * 256 + b) 65536 (omega arith)
-small (a ∷ b ∷ c ∷ bs) l e = absurd (omega arith)
+small bs l ok = lt-ltb (number bs) 65536 (rw l at (digits bs ok .small))
 
 abbrev narrow : ℤ → Bool
 narrow z = leb (absolute z) 32768

@@ -1,24 +1,21 @@
 -- The round trip: the rules give the canonical file of a mesh that mesh again, with nothing skipped and no details.
-use Prim.Native.Nat.{ℕ, _+_, _^_, _≤_}
-use mathlib.Core.Path.{_≡_, refl, _∙_}
-use mathlib.Core.List.{List, [], _∷_, map, append-nil}
-use mathlib.Core.Bool.{true, and-eq-true-iff}
+use Prim.Native.Nat.{ℕ, _≤_}
+use mathlib.Core.Path.{_≡_, _∙_}
+use mathlib.Core.List.{List, [], map, append-nil}
+use mathlib.Core.Bool.{true}
 use mathlib.Core.Option.{none}
 use native.Mathlib.Omega.{arith}
 use lib.ListN.{length}
-use Rattle.format.specs.Bytes.{number, finite, every, all, sum, joined}
+use Rattle.format.specs.Bytes.{joined}
 use Rattle.format.specs.Limits.{fileLimit}
-use Rattle.format.specs.Items.{_andThen_, _>>=_, _or_unless_, whole, upTo, many, item, uint, float}
+use Rattle.format.specs.Items.{_>>=_}
 use Rattle.format.specs.declared.Kind.the-variants.{LWO2}
-use Rattle.format.specs.Chunks.{finished, sizeOf, lengthOf, wellFormed, chunkOf, ofLength, link, split, chunks}
-use Rattle.format.specs.Mesh.{pointWords, levels, Mesh}
-use Rattle.format.specs.Bodies.{point, wholePoints, pointsBody}
-use Rattle.format.specs.Rules.{start, after, when_read_, judge, located, walk, kindOf, form, judged, pointsOf, namesOf, surfacesOf, skippedOf, detailsOf, standing, polygonsIn, meshOf, gives, outcome, rules}
-use Rattle.format.specs.Canonical.{bytes, chunkBytes, runs, unlessEmpty, surfaceChunks, canonicalChunks, formBytes, encoded, canonical}
-use Rattle.format.specs.Written.{goodNames, goodMesh}
-use Rattle.format.proofs.Facts.{all-and}
+use Rattle.format.specs.Chunks.{finished, split, chunks}
+use Rattle.format.specs.Mesh.{Mesh}
+use Rattle.format.specs.Rules.{start, gives, rules}
+use Rattle.format.specs.Canonical.{runs, canonicalChunks, encoded, canonical}
+use Rattle.format.specs.Written.{goodMesh}
 use Rattle.laws.proofs.Tiles.{inFront, chunks-row}
-use Rattle.laws.proofs.Bodies.{goodPoint}
 use Rattle.laws.proofs.Walk.{canonicalParts, WalkedAs, row-judged, walk-judged, asRead, on-names, on-points, on-runs, on-surfaces, counted}
 use Rattle.laws.proofs.Polygons.{joined-runs}
 use Rattle.laws.proofs.Meshes.{Good, good, outcome-back}

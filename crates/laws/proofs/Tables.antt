@@ -1,12 +1,12 @@
 -- Tables and meshes: tables that are a mesh are the tables of that mesh, and every mesh is the mesh of its tables.
-use Prim.Native.Nat.{ℕ, zero, suc, _+_, _*_, _/_, _%_, _≤_, _<_}
+use Prim.Native.Nat.{ℕ, zero, suc, _*_, _/_, _%_, _≤_, _<_}
 use mathlib.Core.Path.{_≡_, refl, sym, ap, _∙_}
 use mathlib.Core.List.{List, [], _∷_, map, map-map, map-id}
 use mathlib.Core.Bool.{true, and-eq-true-iff}
 use native.Mathlib.Omega.{arith}
 use native.Mathlib.Nat.{div-add-mod', mul-div-cancel, mul-mod-left}
 use lib.Dec.{leb, eqb}
-use lib.ListN.{length, drop, getD, replicate, length-drop, take-append-drop, length-map}
+use lib.ListN.{length, drop, replicate, length-drop, take-append-drop, length-map}
 use lib.Seq.{take-all, length-take-le}
 use borrow.Author.Tests.{le-leb, eq-eqb, eqb-true}
 use Rattle.format.specs.Bytes.{every, sum, joined}

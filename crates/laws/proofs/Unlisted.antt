@@ -10,7 +10,6 @@ use lib.ListN.{length}
 use Rattle.format.specs.Bytes.{_is_, sum, joined}
 use Rattle.format.specs.Items.{fine}
 use Rattle.format.specs.declared.Kind.{Kind}
-use Rattle.format.specs.declared.Kind.the-variants.{LWOB, LWO2}
 use Rattle.format.specs.Chunks.{Chunk, sizeOf, Chunks, finished, broken, chunk}
 use Rattle.format.specs.Mesh.{Mesh, Polygon}
 use Rattle.format.specs.Bodies.{Part, pointList, nameList, polygonList, tagging, surface, layer, skippedChunk}

@@ -14,7 +14,7 @@ use Rattle.format.specs.Items.{fine, _andThen_}
 use Rattle.format.specs.declared.Kind.{Kind}
 use Rattle.format.specs.declared.Kind.the-variants.{LWO2}
 use Rattle.format.specs.Chunks.{Chunk, sizeOf, chunkOf, Chunks, finished, chunk}
-use Rattle.format.specs.Mesh.{Point, Polygon, Name, Surface, Mesh, levels}
+use Rattle.format.specs.Mesh.{Point, Polygon, Name, Surface, Mesh}
 use Rattle.format.specs.Bodies.{Part, pointList, nameList, polygonList, surface}
 use Rattle.format.specs.Rules.{Before, start, after, count, when_read_, judge, located}
 use Rattle.format.specs.Contracts.{walkParts}

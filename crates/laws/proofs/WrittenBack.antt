@@ -1,22 +1,21 @@
 -- What the writer wrote, read back: the round trip over tables and over the writer's and the reader's answers.
 use Prim.Native.Nat.{ℕ, _≤_}
 use mathlib.Core.Path.{_≡_, refl}
-use mathlib.Core.List.{List, [], _∷_, map}
-use mathlib.Core.Bool.{Bool, true, false, not, and-eq-true-iff}
+use mathlib.Core.List.{List}
+use mathlib.Core.Bool.{Bool, true, false, not}
 use native.Mathlib.Omega.{arith}
 use lib.Dec.{ltb}
 use lib.ListN.{length, take, drop}
 use lib.Seq.{take-at}
 use borrow.Author.Tests.{ltb-false, le-ltb}
-use Rattle.format.specs.Bytes.{if_then_else_, all, joined}
+use Rattle.format.specs.Bytes.{if_then_else_}
 use Rattle.format.specs.Limits.{fileLimit}
 use Rattle.format.specs.Refusals.{noRoom, notMesh, tooLong}
-use Rattle.format.specs.Mesh.{pointWords, levels, surfaceWords, Mesh, Tables, tables, needs}
+use Rattle.format.specs.Mesh.{Mesh, Tables, tables, needs}
 use Rattle.format.specs.Rules.{gives, rules}
 use Rattle.format.specs.Answer.{answer, fits, over, filled, tablesAfter}
 use Rattle.format.specs.Canonical.{canonical}
 use Rattle.format.specs.Written.{meshFrom, goodMesh, isMesh, says, written, outputAfter}
-use Rattle.format.proofs.Facts.{all-append, all-part}
 use Rattle.laws.proofs.RoundTrip.{round-trip}
 use Rattle.laws.proofs.Tables.{good-tables, tables-back, mesh-from-tables, tables-of-mesh}
 

@@ -1,14 +1,13 @@
 -- What the theorems ask of tables and chunks.
-use Prim.Native.Nat.{ℕ, _≤_, _^_}
+use Prim.Native.Nat.{ℕ, _≤_}
 use mathlib.Core.Path.{_≡_}
 use mathlib.Core.List.{List}
-use mathlib.Core.Bool.{Bool, true, _&&_}
-use lib.Dec.{ltb}
+use mathlib.Core.Bool.{true}
 use lib.ListN.{length, take}
 use Rattle.format.specs.declared.Kind.{Kind}
-use Rattle.format.specs.Bytes.{number, all}
+use Rattle.format.specs.Bytes.{number}
 use Rattle.format.specs.Chunks.{sizeOf, lengthOf, wellFormed}
-use Rattle.format.specs.Mesh.{Mesh, Tables, pointWords, levels}
+use Rattle.format.specs.Mesh.{Tables}
 use Rattle.format.specs.Rules.{unlistedTag}
 
 -- ---- room

@@ -2,12 +2,10 @@
 use Prim.Native.Nat.{ℕ, _+_, _-_, _*_, _/_, _<_, _≤_}
 use mathlib.Core.Path.{_≡_, refl, _∙_}
 use mathlib.Core.List.{List, [], _∷_, map}
-use mathlib.Core.Bool.{Bool, true, false}
 use native.Mathlib.Omega.{arith}
-use lib.Dec.{eqb}
 use lib.ListN.{length, take, drop}
-use Rattle.format.specs.Bytes.{if_then_else_, spelt, sum, joined}
-use Rattle.format.specs.Mesh.{Polygon, FACE, polygonSize}
+use Rattle.format.specs.Bytes.{sum, joined}
+use Rattle.format.specs.Mesh.{Polygon, polygonSize}
 use Rattle.format.specs.Canonical.{vxBytes, polygonBytes, typeOf, pairsOf, pairBytes, runs, unlessEmpty, runChunks, encoded}
 use Rattle.format.specs.Written.{vertexCounts}
 use Rattle.mesh.specs.Lent.{column, meshPolygons}

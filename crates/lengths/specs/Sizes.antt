@@ -1,12 +1,11 @@
 -- How many bytes the parts of a canonical file take, by the numbers that the tables hold.
-use Prim.Native.Nat.{ℕ, suc, _+_, _≤_}
+use Prim.Native.Nat.{ℕ, _+_, _≤_}
 use mathlib.Core.Path.{_≡_}
-use mathlib.Core.List.{List, [], _∷_, _++_}
+use mathlib.Core.List.{List, [], _∷_}
 use lib.Dec.{eqb}
 use Rattle.format.specs.Bytes.{if_then_else_}
 use Rattle.format.specs.Items.{stringSize}
 use Rattle.format.specs.Chunks.{sizeOf}
-use Rattle.format.specs.Canonical.{pairBytes}
 
 -- a counted size, and a bound that keeps sums of sizes from wrapping
 pub record Counted (r size most : ℕ) : Type 0 where

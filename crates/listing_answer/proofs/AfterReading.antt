@@ -1,13 +1,13 @@
 -- After a file was read the tables hold what the listing shows: the polygons of the mesh that the rules give it.
-use Prim.Native.Nat.{ℕ, _+_, _*_}
+use Prim.Native.Nat.{ℕ, _+_}
 use mathlib.Core.Path.{_≡_, refl, ap, _∙_}
-use mathlib.Core.List.{List, [], _∷_, map}
+use mathlib.Core.List.{List, [], _∷_}
 use mathlib.Core.Bool.{Bool, true, false}
 use native.Mathlib.Omega.{arith}
 use lib.ListN.{length, length-append}
 use lib.Seq.{take-at}
 use Rattle.format.specs.Bytes.{sum, joined}
-use Rattle.format.specs.Mesh.{Polygon, Mesh, Tables, polygonWords, polygonSize, tables, needs}
+use Rattle.format.specs.Mesh.{Polygon, Mesh, Tables, polygonSize, tables, needs}
 use Rattle.format.specs.Written.{pieces, entries, polygonsFrom, vertexCounts, meshFrom}
 use Rattle.format.specs.Rules.{Outcome, refused, gives, rules}
 use Rattle.format.specs.Answer.{answer, fits, over, filled, tablesAfter, Reads}

@@ -2,18 +2,18 @@
 -- first byte.
 use Prim.Native.Nat.{ℕ, _<_, _≤_}
 use mathlib.Core.Path.{_≡_, refl, ap, _∙_, sym}
-use mathlib.Core.List.{List, [], _∷_, _++_}
+use mathlib.Core.List.{List, _++_}
 use mathlib.Core.Bool.{Bool, true, false, false≢true}
 use mathlib.Core.Logic.{_≢_}
 use native.Mathlib.Omega.{arith}
 use lib.Dec.{ltb, eqb}
 use lib.ListN.{length, getD}
 use borrow.Author.Tests.{ne-eqb, ltb-true, lt-ltb, le-ltb}
-use Rattle.format.specs.Bytes.{if_then_else_, spelt}
+use Rattle.format.specs.Bytes.{if_then_else_}
 use Rattle.format.specs.Refusals.{ofReader}
-use Rattle.format.specs.Mesh.{Polygon, needs}
-use Rattle.format.specs.Rules.{refused, gives, rules}
-use Rattle.format.specs.Answer.{Answer, fits, answer}
+use Rattle.format.specs.Mesh.{Polygon}
+use Rattle.format.specs.Rules.{rules}
+use Rattle.format.specs.Answer.{Answer, answer}
 use Rattle.laws.proofs.Room.{refused-range}
 use Rattle.listing_text.specs.Text.{polygonLines}
 use Rattle.listing_answer.specs.Listing.{countLines, refusalLine, listing, polygonsGiven}

@@ -1,12 +1,12 @@
 -- Each turn puts the three words of one point, and the body holds whole points, so that no word is left over.
 use mathlib.Core.Path.{_≡_, refl, _∙_}
-use mathlib.Core.List.{List, [], _∷_, _++_, map}
+use mathlib.Core.List.{List, [], _∷_, _++_}
 use Prim.Native.Nat.{ℕ, suc, _+_, _-_, _*_, _/_, _%_, _≤_, _<_}
 use native.Mathlib.Omega.{arith}
 use lib.ListN.{length, take, drop, set, length-drop, length-set}
 use lib.Seq.{drop-drop}
-use Rattle.format.specs.Bytes.{number, joined}
-use Rattle.format.specs.Mesh.{Point, pointWords, pointSize}
+use Rattle.format.specs.Bytes.{number}
+use Rattle.format.specs.Mesh.{pointWords, pointSize}
 use Rattle.format.specs.Contracts.{Put}
 use Rattle.format.proofs.Facts.{length-each}
 use Rattle.format.proofs.Puts.{put-none, put-snoc}

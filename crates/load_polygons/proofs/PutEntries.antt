@@ -1,16 +1,16 @@
 -- The polygons before the place are in the tables, and the entry at it was judged fine with all that follow, so that it has room.
 use mathlib.Core.Path.{_≡_, refl, sym, ap, _∙_}
 use mathlib.Core.List.{List, [], _∷_, _++_, map, map-id, map-append, append-assoc, append-nil}
-use Prim.Native.Nat.{ℕ, _+_, _-_, _*_, _≤_, _<_}
+use Prim.Native.Nat.{ℕ, _+_, _-_, _≤_, _<_}
 use native.Mathlib.Omega.{arith}
 use lib.ListN.{length, drop, length-append}
 use Rattle.format.specs.declared.Fault.the-variants.{ItemCut}
 use Rattle.format.specs.Bytes.{sum, joined}
 use Rattle.format.specs.Items.{_andThen_, Verdict, fault, Got, whole, u4}
 use Rattle.format.specs.Mesh.{Polygon, polygonWords, polygonSize}
-use Rattle.format.specs.Bodies.{Part, polygonList, polygonKind, polygonsBody}
+use Rattle.format.specs.Bodies.{polygonList, polygonKind, polygonsBody}
 use Rattle.format.specs.Rules.{from}
-use Rattle.format.specs.Contracts.{keep, got, itself, Says, Succeeds, Put, polygonsListed, polygonsWords, polygonsVertices, vertexTotal}
+use Rattle.format.specs.Contracts.{keep, got, itself, Says, Succeeds, Put, polygonsListed, vertexTotal}
 use Rattle.format.proofs.ReaderSteps.{exactly, stopped, cut}
 use Rattle.format.proofs.Entries.{ManyLoop, many-begin, many-turn, many-end}
 use Rattle.format.proofs.Inversion.{Entry, many-sound, sound-whole, sound-not, sound-first, sound-good, then-at}
@@ -21,7 +21,7 @@ use Rattle.polygon_layouts.specs.declared.Layout.{Layout}
 use Rattle.polygon_layouts.specs.Layouts.{EntryOf, entryOf, partOf, entriesOf}
 use Rattle.load_vertices.specs.declared.Lists.{Lists}
 use Rattle.load_vertices.specs.declared.Ends.{Ends}
-use Rattle.load_vertices.specs.Contracts.{above, EntryPut}
+use Rattle.load_vertices.specs.Contracts.{EntryPut}
 use Rattle.load_polygons.specs.Contracts.{heldBy, RoomIn, PolygonsRoom, PolygonsStored, PolygonsPut, BodyRoom, BodyPut}
 use Rattle.load_vertices.proofs.PutVertices.{above-length}
 use Rattle.format.proofs.Verdicts.{same-fine}

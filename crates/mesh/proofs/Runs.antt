@@ -6,7 +6,7 @@ use mathlib.Core.Bool.{Bool, true, false}
 use native.Mathlib.Omega.{arith}
 use lib.Dec.{eqb}
 use lib.ListN.{length, take, drop, length-drop, length-map}
-use lib.Seq.{drop-at, take-at, take-add, take-take, drop-drop, length-take-le}
+use lib.Seq.{drop-at, take-at, take-take, drop-drop, length-take-le}
 use borrow.Author.Tests.{eqb-true, eq-eqb, ne-eqb}
 use Rattle.format.specs.Bytes.{if_then_else_, sum}
 use Rattle.format.specs.Mesh.{Polygon, word, polygonSize, polygonFrom}

@@ -6,13 +6,12 @@ use mathlib.Core.Bool.{true}
 use native.Mathlib.Omega.{arith}
 use lib.Dec.{ltb}
 use lib.ListN.{length, getD, take, drop, set, replicate, length-append, length-set}
-use borrow.Author.Tests.{ltb-true, lt-ltb, le-ltb}
+use borrow.Author.Tests.{ltb-true}
 use Rattle.format.specs.Bytes.{joined, all}
 use Rattle.format.specs.Items.{stringSize}
-use Rattle.format.specs.Canonical.{bytes, vxBytes, stringBytes}
+use Rattle.format.specs.Canonical.{bytes, stringBytes}
 use Rattle.format.specs.Written.{pieces}
 use Rattle.format.proofs.Puts.{put-none, put-snoc, put-append}
-use Rattle.format.proofs.CanonicalLengths.{length-bytes}
 use Rattle.format.proofs.Facts.{all-first, all-drop}
 use Rattle.format.proofs.Indexed.{at-index, past-end}
 use Rattle.format.proofs.Indexed.{part, pieces-at}

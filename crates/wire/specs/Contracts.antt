@@ -8,11 +8,9 @@ use Rattle.format.specs.declared.Fault.the-variants.{ItemCut, StringOpen}
 use Rattle.format.specs.Bytes.{absolute, negative}
 use Rattle.format.specs.Items.{Verdict, fine, fault, Got, Reader, i2, string}
 use Rattle.format.specs.Contracts.{got, nothing, Keeps, ReadsAt, taking, nameSize}
-use Rattle.wire.specs.declared.Refusal.{Refusal}
 use Rattle.wire.specs.declared.Step.{Step}
 use Rattle.wire.specs.declared.Run.{Run}
 use Rattle.wire.specs.declared.Checked.{Checked}
-use Rattle.wire.specs.declared.cursor.Cursor.{Cursor}
 use Rattle.wire.specs.declared.cursor.Number.{Number}
 use Rattle.wire.specs.declared.cursor.I2Read.{I2Read}
 use Rattle.wire.specs.declared.cursor.SignedSurface.{SignedSurface}

@@ -198,7 +198,7 @@ impl Cursor {
         SignedSurfaceRead::Got(signed_surface(z), next)
     }
 
-    // An index of four bytes, in the low 24 bits. One that two bytes hold has no business there.
+    // Four bytes, with the index in the low 24 bits. An index that two bytes hold is refused here.
     fn long_index(self, s: &[u8]) -> Item
         ensures { λ r. ⌜ ItemAt longForm 4 (now (s .entry)) (self .at) r ⌝ }
     {

@@ -1,6 +1,5 @@
 -- Two bytes of a list are its elements at the place and at the one after it.
 use borrow.Author.Needs.{needs}
-use mathlib.Core.Path.{sym}
 use native.Mathlib.Omega.{arith}
 use denote.Ref.{now}
 use Rattle.format.proofs.Places.{two-is}

@@ -1,16 +1,15 @@
 -- The number is the same in the wider type, and there its negation fits, that of -32768 too.
-use mathlib.Core.Path.{_≡_, refl, sym, ap, subst, _∙_}
+use mathlib.Core.Path.{_≡_, refl, ap, subst, _∙_}
 use mathlib.Core.Bool.{Bool, true, false, true≢false}
-use Prim.Native.Nat.{ℕ, suc, _+_, _<_, _^_}
+use Prim.Native.Nat.{ℕ, suc}
 use native.Mathlib.Omega.{arith}
 use native.Mathlib.Nat.{zero-add}
-use native.Mathlib.Numerals.{add-one}
 use lib.IntN.{ℤ, pos, negsuc, natAbs, _-ℤ_}
 use lib.Dec.{T}
-use lib.Signed.{mag, ltZ, nonNeg}
+use lib.Signed.{ltZ, nonNeg}
 use mir.Syntax.{w16, w32}
 use mir.Val.{SFits, Fits, toZ, ofZ}
-use mir.Facts.{toZ-pos, toZ-ofZ, sfits-widen, fits-natAbs}
+use mir.Facts.{toZ-ofZ, sfits-widen, fits-natAbs}
 use borrow.Author.Tests.{ltb-true}
 use Rattle.wire.specs.declared.cursor.SignedSurface.{SignedSurface}
 use Rattle.wire.specs.Contracts.{signedSurfaceOf}

@@ -1,14 +1,13 @@
 -- At each turn the first zero byte from n on is the first one from the start on.
-use mathlib.Core.Path.{_≡_, refl, sym, _∙_, ap}
+use mathlib.Core.Path.{_≡_, refl, sym, _∙_}
 use mathlib.Core.List.{List}
-use Prim.Native.Nat.{ℕ, suc, _+_, _-_, _≤_, _<_}
+use Prim.Native.Nat.{ℕ, _+_, _-_, _≤_, _<_}
 use native.Mathlib.Omega.{arith}
 use native.Mathlib.Numerals.{add-one}
 use lib.ListN.{length, getD, drop, drop-of-length-le}
 use lib.Seq.{drop-cons}
 use borrow.Author.Tests.{eq-eqb, ne-eqb}
 use borrow.Author.Needs.{needs}
-use denote.Ref.{now}
 use Rattle.format.specs.Items.{toZero}
 use Rattle.wire.proofs.cursor.terminator.Statement.{statement}
 use Rattle.wire.proofs.cursor.terminator.Tie as tie
