@@ -160,11 +160,11 @@ static void check_witness(const LwoAnswer *told) {
            "the second program answers otherwise");
 }
 
-/* Whether a number is that of a fault in a chunk: 4 to 15, 19 and 20. 1 to 3 are of the
+/* Whether a number is that of a fault in a chunk: 4 to 15, 19, 20 and 22. 1 to 3 are of the
  * file as a whole, 17 and 18 the writer's. */
 static int is_of_a_chunk(uint64_t number) {
     return (number >= LWO_CHUNK && number <= LWO_SIDE_OR_BLOCK) || number == LWO_ITEM_CUT ||
-           number == LWO_STRING_OPEN;
+           number == LWO_STRING_OPEN || number == LWO_LONG_INDEX;
 }
 
 /* Whether a place can be that of a refusal: an item that is missing altogether may begin

@@ -119,19 +119,19 @@ uint32_t lwo_version(void);
 /*
  * The numbers of an answer, each with when it is given.
  *
- * The place of 4 to 15, 19 and 20 is the offset in the file, counted from 0, of the
- * first byte of what is at fault: a header, an item or a string. An item is a type,
- * a number or a float. A wrong body length (6), a wrong pad byte (4) and a block
- * that does not begin as it should (15) are faults of the header of their own chunk
- * or sub-chunk, whose first byte is that of its tag. Where an item or string is not
- * there at all, the place is where it would begin, which is the end of its chunk's
- * body: that may be where the next chunk begins, or the file's length, so look
- * before you read a byte there. The place of 1, 2, 3, 16, 17 and 18 is 0.
+ * The place of 4 to 15, 19, 20 and 22 is the offset in the file, counted from 0, of
+ * the first byte of what is at fault: a header, an item or a string. An item is a
+ * type, a number or a float. A wrong body length (6), a wrong pad byte (4) and a
+ * block that does not begin as it should (15) are faults of the header of their own
+ * chunk or sub-chunk, whose first byte is that of its tag. Where an item or string
+ * is not there at all, the place is where it would begin, which is the end of its
+ * chunk's body: that may be where the next chunk begins, or the file's length, so
+ * look before you read a byte there. The place of 1, 2, 3, 16, 17 and 18 is 0.
  *
  * Of several faults one is told: 1, 2 and 3 come first; then the first in the file,
  * byte by byte; 16 only where nothing else is wrong. Where one item has several, it
- * is the lowest number; but that an item is cut (19) or a string is open (20) is told
- * before its value is judged.
+ * is the lowest number; but first it is told that an item is cut (19) or a string is
+ * open (20), then that an index is too long (22), and only then its value is judged.
  */
 #define LWO_ACCEPTED 0       /* accepted, or written */
 #define LWO_FILE_TOO_LONG 1  /* file too long */
@@ -167,10 +167,12 @@ uint32_t lwo_version(void);
 #define LWO_OUT_TOO_LONG 18  /* writer: canonical file too long */
 #define LWO_ITEM_CUT 19      /* item, but no string, cut by its chunk's end */
 #define LWO_STRING_OPEN 20   /* string without terminator or zero pad */
+#define LWO_LONG_INDEX 22    /* LWO2: index of a point, polygon or envelope that is
+                                below 65,280, in four bytes instead of two */
 
 /* What lwo_read answers. */
 typedef struct LwoAnswer {
-    uint64_t number; /* 0 accepted, else 1 to 16, 19 or 20 of the numbers above */
+    uint64_t number; /* 0 accepted, else 1 to 16, 19, 20 or 22 of those above */
     uint64_t place;  /* the byte at fault, as said there; 0 on 0 */
     /* The five needs: the counts of the file's mesh. Full on 0 and 16; 0 on every
        other number. */

@@ -12,6 +12,7 @@ pub mod assemble;
 pub mod boundary;
 pub mod files;
 pub mod floats;
+pub mod indices;
 pub mod insert;
 pub mod layer;
 pub mod lwo2;

@@ -1,6 +1,6 @@
 //! Random valid LWO2 files.
 
-use crate::assemble::{chunk, f4, join, string, sub_chunk, u2, vx, vx_long, Kind, Tag};
+use crate::assemble::{chunk, f4, join, string, sub_chunk, u2, vx, Kind, Tag};
 use crate::floats::finite;
 use crate::layer::Layer;
 use crate::names;
@@ -137,7 +137,7 @@ fn add_names(draft: &mut Draft, state: &mut State) {
     state.names = true;
 }
 
-/// A POLS with any six high bits in each count, and vertices in both forms.
+/// A POLS with any six high bits in each count.
 fn add_polygons(random: &mut Random, draft: &mut Draft, state: &mut State, points: Latest) {
     let kind = random.between(1, 2) as u32;
     let first = draft.mesh.polygon_count();
@@ -151,7 +151,7 @@ fn add_polygons(random: &mut Random, draft: &mut Draft, state: &mut State, point
         let vertices = corners(random, points.count, 1_023);
         body.extend(u2(vertices.len() as u16 | high_bits(random)));
         for &vertex in &vertices {
-            body.extend(either_form(random, vertex));
+            body.extend(vx(vertex));
         }
         let stored: Vec<u32> = vertices
             .iter()
@@ -175,15 +175,6 @@ fn high_bits(random: &mut Random) -> u16 {
     }
 }
 
-/// "A small index in the long form is accepted."
-fn either_form(random: &mut Random, index: u32) -> Vec<u8> {
-    if random.once_in(4) {
-        vx_long(index)
-    } else {
-        vx(index)
-    }
-}
-
 /// PTAG SURF with pairs in any order, some polygons more than once: "The last
 /// tag for a polygon stands (house)."
 fn add_tagging(random: &mut Random, draft: &mut Draft, state: &State, polygons: Latest) {
@@ -193,7 +184,7 @@ fn add_tagging(random: &mut Random, draft: &mut Draft, state: &State, polygons: 
         for _ in 0..random.below(2 * u64::from(polygons.count) + 1) {
             let polygon = random.below(u64::from(polygons.count)) as u32;
             let tag = random.index(names) as u32;
-            body.extend(either_form(random, polygon));
+            body.extend(vx(polygon));
             body.extend(u2(tag as u16));
             draft.mesh.set_surface(polygons.first + polygon, tag + 1);
         }
@@ -260,17 +251,18 @@ fn sub(random: &mut Random) -> Sub {
     }
 }
 
-/// So many floats and a VX, which may be any and in either form.
+/// So many floats and a VX, which may be any, in the form that #107 leaves it.
 fn floats_and_envelope(random: &mut Random, floats: usize) -> Vec<u8> {
     let mut body = Vec::new();
     for _ in 0..floats {
         body.extend(f4(finite(random)));
     }
-    let index = match random.below(3) {
+    let index = match random.below(4) {
         0 => random.below(0x0100_0000) as u32,
+        1 => *random.pick(&[0xfeff, 0xff00, 0x00ff_ffff]),
         _ => random.below(4) as u32,
     };
-    body.extend(either_form(random, index));
+    body.extend(vx(index));
     body
 }
 

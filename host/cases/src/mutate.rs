@@ -1,7 +1,8 @@
 //! Byte mutations of a file: what happens to files on the way. Nothing is
 //! expected of a mutated file but that every reader answers it.
 
-use crate::assemble::{u2, u4};
+use crate::assemble::{u2, u4, Kind};
+use crate::indices::{all_lengthened, indices, is_short, lengthened};
 use crate::insert::{boundaries, correct_form_length};
 use crate::random::Random;
 use crate::valid::Valid;
@@ -15,13 +16,14 @@ pub fn mutated(random: &mut Random, valid: &Valid) -> Vec<u8> {
     file
 }
 
-/// The file, or the file with chunks swapped, doubled or left out.
+/// The file, or the file with chunks swapped, doubled or left out, or with
+/// indices in the long form.
 fn rearranged(random: &mut Random, valid: &Valid) -> Vec<u8> {
     let mut parts = valid.parts.clone();
     let count = parts.chunks.len();
     if count > 0 {
         let (one, other) = (random.index(count), random.index(count));
-        match random.below(5) {
+        match random.below(6) {
             0 => parts.chunks.swap(one, other),
             1 => {
                 let again = parts.chunks[one].clone();
@@ -30,6 +32,7 @@ fn rearranged(random: &mut Random, valid: &Valid) -> Vec<u8> {
             2 => {
                 parts.chunks.remove(one);
             }
+            3 if parts.kind == Kind::Lwo2 => return with_long_indices(random, &parts.file()),
             _ => {
                 let mut file = parts.file();
                 change(random, &mut file);
@@ -38,6 +41,17 @@ fn rearranged(random: &mut Random, valid: &Valid) -> Vec<u8> {
         }
     }
     parts.file()
+}
+
+/// A valid LWO2 file with one of its short indices in the long form, or all.
+fn with_long_indices(random: &mut Random, file: &[u8]) -> Vec<u8> {
+    let mut short = indices(file);
+    short.retain(|one| is_short(file, one));
+    if short.is_empty() || random.once_in(4) {
+        all_lengthened(file)
+    } else {
+        lengthened(file, random.pick(&short))
+    }
 }
 
 fn change(random: &mut Random, file: &mut Vec<u8>) {
@@ -146,13 +160,16 @@ fn careful_boundaries(file: &[u8]) -> Option<Vec<usize>> {
     (at == file.len()).then(|| boundaries(file))
 }
 
-/// A long index somewhere.
+/// A long index somewhere, mostly one that is too small for this form.
 fn put_index(random: &mut Random, file: &mut [u8]) {
     if file.len() < 16 {
         return;
     }
     let at = 12 + random.index(file.len() - 15);
-    let index = random.below(6) as u32;
+    let index = match random.below(3) {
+        0 => *random.pick(&[0xfeff, 0xff00, 0xff01, 0x00ff_ffff]),
+        _ => random.below(6) as u32,
+    };
     file[at..at + 4].copy_from_slice(&u4(0xff00_0000 + index));
 }
 

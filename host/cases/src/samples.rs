@@ -14,6 +14,7 @@ pub fn samples() -> Vec<(&'static str, Vec<u8>)> {
         ("rosette.lwo", rosette()),
         ("saddle.lwo", saddle()),
         ("shelf.lwo", shelf()),
+        ("shield.lwo", shield()),
         ("stall.lwo", stall()),
     ]
 }
@@ -251,6 +252,34 @@ fn shelf() -> Vec<u8> {
     form(Kind::Lwo2, &join(&chunks))
 }
 
+/// LWO2: a shield of lime wood with a gilded band along its top, from a program that writes every
+/// index in four bytes. "LWO2 says an index below 65,280 is written in two bytes": refused 22 at
+/// 116, where the first vertex stands.
+fn shield() -> Vec<u8> {
+    let corners = [
+        [-0.25, 0.6, 0.0],
+        [0.25, 0.6, 0.0],
+        [0.25, 0.45, 0.0],
+        [0.0, 0.0, 0.0],
+        [-0.25, 0.45, 0.0],
+    ];
+    let (band, field): (&[u32], &[u32]) = (&[0, 4, 2, 1], &[4, 3, 2]);
+    let lime = [
+        string(b"Lime"),
+        string(b""),
+        sub_chunk(b"COLR", &join(&[points(&[[0.9, 0.85, 0.68]]), vx_long(0)])),
+        sub_chunk(b"DIFF", &join(&[level(0.9), vx_long(0)])),
+    ];
+    let chunks = [
+        chunk(b"TAGS", &strings(&[b"Gilding", b"Lime"])),
+        chunk(b"PNTS", &points(&corners)),
+        chunk(b"POLS", &polygons_by(vx_long, b"FACE", &[band, field])),
+        chunk(b"PTAG", &taggings_by(vx_long, &[(0, 0), (1, 1)])),
+        chunk(b"SURF", &join(&lime)),
+    ];
+    form(Kind::Lwo2, &join(&chunks))
+}
+
 /// LWO2: a stall with a counter and an awning, each in a layer, from a program that leaves out the
 /// points of the awning. Its face is not to have those of the counter: refused 5 at 230, where the
 /// awning's POLS begins.
@@ -305,14 +334,14 @@ fn walnut() -> Vec<u8> {
     ])
 }
 
-/// With an envelope index in the long form, which is read and dropped.
+/// With an envelope, whose index is read and dropped.
 fn brass() -> Vec<u8> {
     join(&[
         string(b"Brass"),
         string(b""),
         sub_chunk(b"COLR", &join(&[points(&[[0.71, 0.65, 0.26]]), vx(0)])),
         sub_chunk(b"SPEC", &enveloped(0.6)),
-        sub_chunk(b"REFL", &join(&[level(0.3), vx_long(1)])),
+        sub_chunk(b"REFL", &join(&[level(0.3), vx(1)])),
     ])
 }
 
@@ -340,20 +369,31 @@ fn lwob_polygon(vertices: &[u16], surface: i16) -> Vec<u8> {
     join(&[u2(vertices.len() as u16), numbers, i2(surface)])
 }
 
+/// How a program writes an index.
+type Index = fn(u32) -> Vec<u8>;
+
 fn lwo2_polygons(kind: &Tag, list: &[&[u32]]) -> Vec<u8> {
+    polygons_by(vx, kind, list)
+}
+
+fn polygons_by(index: Index, kind: &Tag, list: &[&[u32]]) -> Vec<u8> {
     let mut body = kind.to_vec();
     for vertices in list {
         body.extend(u2(vertices.len() as u16));
-        body.extend(vertices.iter().flat_map(|&vertex| vx(vertex)));
+        body.extend(vertices.iter().flat_map(|&vertex| index(vertex)));
     }
     body
 }
 
 /// A PTAG of type SURF: pairs of polygon and tag.
 fn taggings(pairs: &[(u32, u16)]) -> Vec<u8> {
+    taggings_by(vx, pairs)
+}
+
+fn taggings_by(index: Index, pairs: &[(u32, u16)]) -> Vec<u8> {
     let mut body = b"SURF".to_vec();
     for &(polygon, tag) in pairs {
-        body.extend(join(&[vx(polygon), u2(tag)]));
+        body.extend(join(&[index(polygon), u2(tag)]));
     }
     body
 }

@@ -2,7 +2,7 @@
 //! top-level ones are counted as skipped. A tag is listed only where it is
 //! named below, by kind of file and level."
 
-use crate::assemble::{chunk, sub_chunk, Kind, Tag};
+use crate::assemble::{chunk, sub_chunk, vx_long, Kind, Tag};
 use crate::random::Random;
 
 /// The tags that are listed at the top level, LWO2's LAYR by request #103.
@@ -62,8 +62,13 @@ pub fn unlisted_sub_chunk(random: &mut Random, known: &[&Tag], listed: &[&Tag]) 
     }
 }
 
-/// Any bytes, up to so many; none at all is likely too.
+/// Any bytes, up to so many; none at all is likely too. Now and then they are
+/// what #107 refuses "wherever a VX is read", which is not here.
 pub fn any_body(random: &mut Random, most: u64) -> Vec<u8> {
+    if random.once_in(8) {
+        let index = vx_long(random.below(6) as u32);
+        return index.repeat(random.between(1, most / 4) as usize);
+    }
     let length = if random.once_in(3) {
         random.below(4)
     } else {

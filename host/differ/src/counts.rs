@@ -5,9 +5,8 @@ use std::fmt;
 use crate::reading::Reading;
 use crate::writing::Writing;
 
-/// The numbers of document 01's table and those of request #101, with 0 for
-/// accepted.
-const NUMBERS: usize = 21;
+/// The numbers up to that of request #107, with 0 for accepted.
+const NUMBERS: usize = 23;
 
 /// How many files and meshes there were, by the number that each answers where
 /// there is room, and how often they were read and written.

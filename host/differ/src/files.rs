@@ -92,7 +92,7 @@ fn reading(line: &str) -> Vec<u8> {
 /// can begin anywhere.
 pub fn generated(seed: u64, number: u64) -> Named {
     let random = &mut Random::new(mixed(seed, number));
-    if random.once_in(4) {
+    if random.once_in(3) {
         let group = random.pick(near_faults());
         let file = random.pick(group).clone();
         return named("damaged targeted", damaged(random, file));
@@ -119,7 +119,7 @@ fn near_faults() -> &'static [Vec<Vec<u8>>] {
         let all = targeted::targeted();
         let of = |number: u64| all.iter().filter(move |one| one.number == number);
         (4..=15)
-            .chain([19, 20])
+            .chain([19, 20, 22])
             .map(|number| of(number).map(|one| one.file.clone()).collect())
             .collect()
     })

@@ -88,7 +88,7 @@ mod tests {
         assert!(some(&|line| line == "accepted"));
         assert!(some(&|line| line == "not read"));
         assert!(some(&|line| line == "refused 16 at 0"));
-        for number in (2..=15).chain([19, 20]) {
+        for number in (2..=15).chain([19, 20, 22]) {
             let start = format!("refused {number} at ");
             assert!(some(&|line| line.starts_with(&start)), "{start}");
         }

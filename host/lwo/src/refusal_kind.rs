@@ -47,12 +47,14 @@ pub enum RefusalKind {
     /// A name or other string has no zero byte at its end, or not the second one that makes it
     /// even.
     StringOpen = 20,
+    /// An index of LWO2 that is below 65,280 is written in four bytes instead of two.
+    LongIndex = 22,
 }
 
 use RefusalKind as K;
 
-/// Every kind in the order of its number, with its sentence.
-const TABLE: [(RefusalKind, &str); 20] = [
+/// Every kind in the order of its number, with its sentence. Not every number has a kind.
+const TABLE: [(RefusalKind, &str); 21] = [
     (K::FileTooLong, "the file is longer than 16,777,216 bytes"),
     (
         K::NotAnObject,
@@ -126,6 +128,10 @@ const TABLE: [(RefusalKind, &str); 20] = [
         "a name or other string has no zero byte at its end, or not the second one that makes it \
          even",
     ),
+    (
+        K::LongIndex,
+        "an index below 65,280 is written in four bytes instead of two",
+    ),
 ];
 
 impl RefusalKind {
@@ -157,7 +163,8 @@ impl RefusalKind {
 
     /// What it means, as a sentence without a full stop.
     pub fn sentence(self) -> &'static str {
-        let (_, sentence) = TABLE[self as usize - 1];
+        let row = TABLE.iter().find(|&&(kind, _)| kind == self);
+        let (_, sentence) = row.expect("every kind is in the table");
         sentence
     }
 }
@@ -170,7 +177,7 @@ mod tests {
     #[test]
     fn the_table_is_in_the_order_of_the_numbers() {
         let numbers = RefusalKind::all().map(RefusalKind::number);
-        assert!(numbers.eq(1..=20));
+        assert!(numbers.eq((1..=20).chain([22])));
     }
 
     #[test]
@@ -180,7 +187,7 @@ mod tests {
         for kind in RefusalKind::all() {
             assert_eq!(RefusalKind::from_number(kind.number()), Some(kind));
         }
-        for number in [0, 21, u64::MAX] {
+        for number in [0, 21, 23, u64::MAX] {
             assert_eq!(RefusalKind::from_number(number), None);
         }
     }
@@ -210,6 +217,7 @@ mod tests {
             "canonical file",
             "cut by the end",
             "zero byte",
+            "four bytes",
         ];
         assert_eq!(words.len(), RefusalKind::all().len());
         for (kind, word) in RefusalKind::all().zip(words) {

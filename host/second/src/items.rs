@@ -5,6 +5,7 @@
 //! is looked at. What is wrong with an item lies at its first byte, which is
 //! the body's end where no byte of it is there.
 
+use crate::limits::LONG_INDEX;
 use crate::refusal::{Fault, Flaw};
 
 /// The part of a body that is still to be read, and where in the file it lies.
@@ -81,15 +82,22 @@ impl<'a> Cursor<'a> {
     }
 
     /// "VX (002): if the first byte is 255, four bytes, index in the low 24
-    /// bits; else two bytes. Reading goes on at the byte after the index. A
-    /// small index in the long form is accepted."
+    /// bits; else two bytes. Reading goes on at the byte after the index."
+    ///
+    /// #107: "LWO2 says an index below 65,280 is written in two bytes. Refuse
+    /// the long form for such an index wherever a VX is read, envelopes
+    /// included." It is "22 (place: the index's first byte), after an item that
+    /// is cut and before 9 or 11 for the same item".
     pub fn vx(&mut self) -> Result<u32, Flaw> {
-        if self.rest.first() == Some(&255) {
-            let whole = u32::from_be_bytes(self.bytes::<4>()?);
-            Ok(whole & 0x00ff_ffff)
-        } else {
-            Ok(u32::from(self.u2()?))
+        if self.rest.first() != Some(&255) {
+            return Ok(u32::from(self.u2()?));
         }
+        let at = self.at;
+        let index = u32::from_be_bytes(self.bytes::<4>()?) & 0x00ff_ffff;
+        if index < LONG_INDEX {
+            return Err(Flaw::new(Fault::LongIndex, at));
+        }
+        Ok(index)
     }
 
     /// "In a string (S0) the name ends at its first zero byte, and one more

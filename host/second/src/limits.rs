@@ -26,5 +26,6 @@ pub const TABLE_ENTRIES: usize = 16_777_216;
 /// a U2 from 0.
 pub const HIGHEST_SURFACE: u32 = 65_536;
 
-/// The first index that a VX holds in four bytes (source 002).
+/// The first index that a VX holds in four bytes (source 002); since #107 one
+/// below it may not have them.
 pub const LONG_INDEX: u32 = 0xff00;

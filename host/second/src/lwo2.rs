@@ -72,7 +72,7 @@ fn take_polygons<'a>(file: &'a [u8], chunk: &Chunk, found: &mut Found<'a>) -> Re
 }
 
 /// The type of a POLS: FACE or PTCH, else 12.
-fn polygon_kind(cursor: &mut Cursor) -> Result<u32, Flaw> {
+pub fn polygon_kind(cursor: &mut Cursor) -> Result<u32, Flaw> {
     let at = cursor.at();
     match &cursor.four()? {
         b"FACE" => Ok(FACE),
@@ -82,7 +82,7 @@ fn polygon_kind(cursor: &mut Cursor) -> Result<u32, Flaw> {
 }
 
 /// The low ten bits of a U2, so 1,023 at most; 0 is not allowed.
-fn vertex_count(cursor: &mut Cursor) -> Result<u32, Flaw> {
+pub fn vertex_count(cursor: &mut Cursor) -> Result<u32, Flaw> {
     let at = cursor.at();
     let count = u32::from(cursor.u2()? & 0x03ff);
     if count == 0 {
@@ -122,7 +122,7 @@ fn polygon_number(cursor: &mut Cursor, polygons: u32) -> Result<u32, Flaw> {
 }
 
 /// A tag of the TAGS so far, else 10.
-fn tag_number(cursor: &mut Cursor, names: usize) -> Result<u32, Flaw> {
+pub fn tag_number(cursor: &mut Cursor, names: usize) -> Result<u32, Flaw> {
     let at = cursor.at();
     let tag = u32::from(cursor.u2()?);
     if tag as usize >= names {
@@ -146,7 +146,7 @@ fn take_surface<'a>(file: &'a [u8], chunk: &Chunk, found: &mut Found<'a>) -> Res
 }
 
 /// One sub-chunk of a SURF, at level two.
-fn take_value(file: &[u8], sub: &Chunk, values: &mut Values) -> Result<(), Flaw> {
+pub fn take_value(file: &[u8], sub: &Chunk, values: &mut Values) -> Result<(), Flaw> {
     match &sub.tag {
         b"COLR" => values.colour = Some(colour(file, sub)?),
         b"DIFF" => values.diffuse = Some(level(file, sub)?),
@@ -187,7 +187,7 @@ fn pass_envelope(sub: &Chunk, cursor: &mut Cursor) -> Result<(), Flaw> {
 
 /// Bytes left over are the fault of the chunk or sub-chunk itself, seen after
 /// its items.
-fn must_be_used_up(chunk: &Chunk, cursor: &Cursor) -> Result<(), Flaw> {
+pub fn must_be_used_up(chunk: &Chunk, cursor: &Cursor) -> Result<(), Flaw> {
     if !cursor.is_done() {
         return Err(chunk.flaw(Fault::BytesLeftOver));
     }

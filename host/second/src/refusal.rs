@@ -7,7 +7,7 @@
 //! begins, so the chunk cannot be had from it.
 
 /// One thing that is wrong, each with one number: those up to 15 are of
-/// document 01's table, 19 and 20 of request #101.
+/// document 01's table, 19 and 20 of request #101, 22 of request #107.
 #[derive(Clone, Copy, Debug, PartialEq, Eq, Hash)]
 pub enum Fault {
     /// 1: "file too long".
@@ -52,6 +52,8 @@ pub enum Fault {
     StringTerminator,
     /// 20: a string without "zero pad".
     StringPad,
+    /// 22: the long form of "an index below 65,280".
+    LongIndex,
     /// 7: "coordinate or level not finite".
     NotFinite,
     /// 8: "vertex count not allowed".
@@ -83,7 +85,7 @@ pub enum Fault {
 impl Fault {
     /// The number that is told: "Number 6 stays for wrong body lengths (SIDE's
     /// is two), an item (no string) cut by its chunk's end gets 19, a string
-    /// without terminator or zero pad gets 20."
+    /// without terminator or zero pad gets 20." And #107: "Refusals: 22".
     pub fn number(self) -> u64 {
         match self {
             Fault::FileTooLong => 1,
@@ -110,6 +112,7 @@ impl Fault {
             Fault::SideValue | Fault::BlockEmpty | Fault::BlockHeader => 15,
             Fault::ItemCut => 19,
             Fault::StringTerminator | Fault::StringPad => 20,
+            Fault::LongIndex => 22,
         }
     }
 }

@@ -1,6 +1,7 @@
 //! Files that must be accepted, each for one sentence of document 01 or of a
 //! request of document 02, with the mesh that each must give.
 
+mod indices;
 mod layers;
 
 use crate::assemble::{chunk, f4, form, i2, join, string, sub_chunk, u2, vx_long, vx_short};
@@ -33,6 +34,7 @@ pub fn accepted() -> Vec<Accepted> {
     add_polygons(&mut list);
     add_skipped(&mut list);
     layers::add_layers(&mut list);
+    indices::add_indices(&mut list);
     list
 }
 
@@ -188,7 +190,7 @@ fn add_flags(list: &mut Vec<Accepted>) {
     add_surf(list, kind, "flag-at-last", &[flag(0), flag(0x0101)]);
 }
 
-/// LWO2: each value alone with both forms of its VX, and twice; SIDE 1 and 3;
+/// LWO2: each value alone with both forms of a VX, and twice; SIDE 1 and 3;
 /// what LWOB lists is not listed here.
 fn add_lwo2_values(list: &mut Vec<Accepted>) {
     let kind = Kind::Lwo2;
@@ -434,7 +436,7 @@ fn add_latest_lists(list: &mut Vec<Accepted>) {
 }
 
 /// LWOB: details counted and not kept, faces and patches in turn. LWO2: the six
-/// high bits of a count, an index in the long form, and a PTAG of another type.
+/// high bits of a count, and a PTAG of another type.
 fn add_polygons(list: &mut Vec<Accepted>) {
     let (three, words) = points(3, HALF);
     let names = name_list(Kind::Lwob, &[b"a", b"b"]);
@@ -475,7 +477,7 @@ fn add_polygons(list: &mut Vec<Accepted>) {
     list.last_mut().expect("a file").details = 3;
 
     for bit in 10..16 {
-        let body = join(&[&b"FACE"[..], &u2(1 | 1 << bit), &vx_long(2)]);
+        let body = join(&[&b"FACE"[..], &u2(1 | 1 << bit), &vx_short(2)]);
         let tagging = chunk(b"PTAG", b"PARTodd");
         let chunks = [three.clone(), chunk(b"POLS", &body), tagging];
         let mut mesh = PlainMesh {

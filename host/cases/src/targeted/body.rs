@@ -67,11 +67,15 @@ impl Body {
             .sum()
     }
 
-    /// The bytes with another value for one item; the items after it stay.
+    /// The body with another value for one item; the items after it stay.
+    pub fn with(mut self, number: usize, bytes: &[u8]) -> Body {
+        self.items[number].bytes = bytes.to_vec();
+        self
+    }
+
+    /// The bytes of that body.
     pub fn replaced(&self, number: usize, bytes: &[u8]) -> Vec<u8> {
-        let mut other = self.clone();
-        other.items[number].bytes = bytes.to_vec();
-        other.bytes()
+        self.clone().with(number, bytes).bytes()
     }
 
     /// The numbers of the items of a role.

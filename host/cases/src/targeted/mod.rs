@@ -1,11 +1,13 @@
 //! Targeted files: for every refusal number a file at every place where
 //! document 01 allows it. What each must answer is said here, from that
-//! document and from requests #101 and #103 of document 02, and worked out by
-//! no reader.
+//! document and from requests #101, #103 and #107 of document 02, and worked out
+//! by no reader.
 
 mod body;
 mod forms;
 mod headers;
+mod index_order;
+mod indices;
 mod items;
 mod layers;
 mod missing;
@@ -46,6 +48,8 @@ pub fn targeted() -> Vec<Targeted> {
     names::add(&mut catalogue);
     surfaces::add(&mut catalogue);
     layers::add(&mut catalogue);
+    indices::add(&mut catalogue);
+    index_order::add(&mut catalogue);
     order::add(&mut catalogue);
     places::add(&mut catalogue);
     catalogue.list
@@ -175,7 +179,7 @@ mod tests {
             let ends = named.filter(|one| one.place == one.file.len() as u64);
             ends.count()
         };
-        for number in 2..=20 {
+        for number in 2..=22 {
             for kind in ["lwob", "lwo2"] {
                 let some = at_end(number, kind) > 0;
                 assert_eq!(some, number == 19 || number == 20, "{number} {kind}");
@@ -190,6 +194,6 @@ mod tests {
             *counts.entry(one.number).or_default() += 1;
         }
         let numbers: Vec<u64> = counts.keys().copied().collect();
-        assert_eq!(numbers, (2..=15).chain([19, 20]).collect::<Vec<u64>>());
+        assert_eq!(numbers, (2..=15).chain([19, 20, 22]).collect::<Vec<u64>>());
     }
 }

@@ -35,7 +35,7 @@ pub const FIXED: [(&str, &[u8; 4], usize); 12] = [
 /// A sub-chunk among good ones in a SURF, with a fault at an offset in it. The
 /// SURF is for a listed name once, and once for one that is not listed: every
 /// SURF is checked.
-fn add_sub(catalogue: &mut Catalogue, kind: Kind, name: &str, sub: &[u8], fault: Fault) {
+pub fn add_sub(catalogue: &mut Catalogue, kind: Kind, name: &str, sub: &[u8], fault: Fault) {
     let unlisted = match kind {
         Kind::Lwob => string(b"nobody"),
         Kind::Lwo2 => join(&[string(b"nobody"), string(b"source")]),
@@ -103,7 +103,7 @@ pub const VALUES: [(&str, &[u8; 4], usize); 6] = [
     ("tran", b"TRAN", 1),
 ];
 
-fn value_body(floats: usize, envelope: Vec<u8>) -> Body {
+pub fn value_body(floats: usize, envelope: Vec<u8>) -> Body {
     let mut body = Body::default();
     for _ in 0..floats {
         body = body.then(Role::Float, f4(0x3f80_0000));
@@ -113,7 +113,7 @@ fn value_body(floats: usize, envelope: Vec<u8>) -> Body {
 
 fn add_lwo2_values(catalogue: &mut Catalogue) {
     for (word, tag, floats) in VALUES {
-        for (form, envelope) in [("short", vx_short(1)), ("long", vx_long(1))] {
+        for (form, envelope) in [("short", vx_short(1)), ("long", vx_long(65_280))] {
             let word = format!("{word}-{form}");
             let body = value_body(floats, envelope);
             add_value_cuts(catalogue, &word, tag, &body);

@@ -1,110 +1,16 @@
 //! Readers that are wrong in one way each about LAYR, which request #103 lists
 //! for LWO2.
 
-use differ::guarded::Guarded;
-use differ::lent::Lent;
-use differ::library::Library;
-use differ::{check, files};
-use second::chunks::{chunk, Chunk};
+use second::chunks::Chunk;
 use second::found::Found;
 use second::items::Cursor;
 use second::refusal::Flaw;
-use second::{canonical, lwo2, lwob, Answer, Fault, Mesh, Tables, Written};
+use second::{lwo2, lwob, Fault};
 
-use crate::RIGHT;
-
-/// How a chunk is judged and taken.
-type Take = for<'a> fn(&'a [u8], &Chunk, &mut Found<'a>) -> Result<(), Flaw>;
-
-/// The second program with its own or other ways to take a chunk.
-struct Reader {
-    lwob: Take,
-    lwo2: Take,
-}
-
-impl Reader {
-    /// Takes the chunks of a file that is not refused as a whole.
-    fn gather<'a>(&self, file: &'a [u8]) -> Result<Found<'a>, Flaw> {
-        let take = match &file[8..12] {
-            b"LWOB" => self.lwob,
-            _ => self.lwo2,
-        };
-        let mut found = Found::default();
-        let mut at = 12;
-        while at < file.len() {
-            let chunk = chunk(file, at, file.len())?;
-            take(file, &chunk, &mut found)?;
-            at = chunk.next;
-        }
-        Ok(found)
-    }
-}
-
-impl Library for Reader {
-    fn read(&self, file: &Guarded<u8>, lent: &mut Lent) -> Answer {
-        let right = second::read(file.content(), &mut Tables::default());
-        if (1..=3).contains(&right.number) {
-            return right;
-        }
-        match self.gather(file.content()) {
-            Ok(found) => Answer {
-                skipped: found.skipped,
-                details: found.details,
-                ..RIGHT.read(&Guarded::new(&canonical_of(&found)), lent)
-            },
-            Err(flaw) => Answer {
-                number: flaw.fault.number(),
-                place: flaw.at as u64,
-                ..Answer::default()
-            },
-        }
-    }
-
-    fn write(&self, lent: &Lent, out: &mut Guarded<u8>) -> Written {
-        RIGHT.write(lent, out)
-    }
-}
-
-/// The canonical file of what was found: it reads as that mesh, so the second
-/// program itself looks at the room and fills the tables.
-fn canonical_of(found: &Found) -> Vec<u8> {
-    let records = found.records();
-    canonical(&Mesh::from_tables(&Tables {
-        points: found.points.clone(),
-        polygons: found.polygons.clone(),
-        vertices: found.vertices.clone(),
-        names: found.names.iter().map(|name| name.len() as u32).collect(),
-        name_bytes: found.names.concat(),
-        records: records.iter().flat_map(|record| record.words()).collect(),
-    }))
-}
-
-/// What is said of a reader by the first fixed file on which it is found out.
-fn found_in_fixed(reader: &Reader) -> Option<String> {
-    let mut all = files::fixed().into_iter();
-    all.find_map(|one| check::file(reader, &one.file).err())
-}
-
-/// The same by generated files.
-fn found_in_generated(reader: &Reader) -> Option<String> {
-    let mut all = (0..1_000).map(|number| files::generated(5, number));
-    all.find_map(|one| check::file(reader, &one.file).err())
-}
+use crate::reader::{found_in_fixed, found_in_generated, must_say, of_lwo2, Reader, TakeFn};
 
 #[track_caller]
-fn must_say(said: Option<String>) {
-    let said = said.expect("the mistake was not found out");
-    assert!(said.contains("the answer is"), "{said}");
-}
-
-/// A reader that takes LWO2's chunks in another way.
-fn of_lwo2(lwo2: Take) -> Reader {
-    let lwob = lwob::take;
-    Reader { lwob, lwo2 }
-}
-
-#[track_caller]
-fn must_find_lwo2(lwo2: Take) {
+fn must_find_lwo2(lwo2: TakeFn) {
     must_say(found_in_fixed(&of_lwo2(lwo2)));
 }
 
@@ -115,13 +21,13 @@ fn is_layer(chunk: &Chunk) -> bool {
 /// The same reader without a mistake is right.
 #[test]
 fn none_is_found_in_the_right_reader() {
-    let right = of_lwo2(lwo2::take);
+    let right = of_lwo2(lwo2::take as TakeFn);
     assert_eq!(found_in_fixed(&right), None);
     assert_eq!(found_in_generated(&right), None);
 }
 
 /// A reader of before #103.
-const SKIPS: Take = |file, chunk, found| {
+const SKIPS: TakeFn = |file, chunk, found| {
     if is_layer(chunk) {
         found.skipped += 1;
         return Ok(());
@@ -130,7 +36,7 @@ const SKIPS: Take = |file, chunk, found| {
 };
 
 /// A reader whose faces borrow points from another layer.
-const KEEPS_POINTS: Take = |file, chunk, found| {
+const KEEPS_POINTS: TakeFn = |file, chunk, found| {
     let points = found.latest_points;
     lwo2::take(file, chunk, found)?;
     if is_layer(chunk) {
@@ -270,6 +176,6 @@ fn one_that_is_listed_in_lwob() {
             true => lwo2::take(file, chunk, found),
             false => lwob::take(file, chunk, found),
         },
-        lwo2: lwo2::take,
+        lwo2: lwo2::take as TakeFn,
     }));
 }

@@ -1,7 +1,9 @@
 //! Libraries that are wrong in one way each. Every one has to be found out, or
 //! the comparison would not be worth much.
 
+mod indices;
 mod layers;
+mod reader;
 
 use cases::random::Random;
 use differ::guarded::Guarded;
@@ -190,6 +192,7 @@ fn a_wrong_place_of_a_fault() {
         Fault::ItemCut,
         Fault::StringTerminator,
         Fault::StringPad,
+        Fault::LongIndex,
         Fault::NotFinite,
         Fault::VertexNumber,
         Fault::NameTwice,

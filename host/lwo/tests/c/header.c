@@ -259,6 +259,11 @@ static void refuses_to_read(void)
     refuses_byte(87, 3, LWO_VERTEX_NUMBER, 86);
     /* The polygon has a fourth vertex, which would begin where its chunk ends. */
     refuses_byte(81, 4, LWO_ITEM_CUT, 88);
+    /* The first vertex, at 82, and the polygon of PTAG, at 100, have four bytes. */
+    refuses_byte(82, 255, LWO_LONG_INDEX, 82);
+    refuses_byte(100, 255, LWO_LONG_INDEX, 100);
+    /* The last vertex should have four, and its chunk ends after two. */
+    refuses_byte(86, 255, LWO_ITEM_CUT, 86);
     /* The name, at 20, has no zero byte at its end. */
     refuses_byte(23, 's', LWO_STRING_OPEN, 20);
     /* The header of PTAG, at 88, has a length past the end of the file. */

@@ -139,6 +139,25 @@ fn a_layer_without_points_is_told() {
     assert_eq!(checked, Run::new(1, &printed, ""));
 }
 
+/// Every index of the file has four bytes, and the first of them is told.
+#[test]
+fn a_small_index_in_four_bytes_is_told() {
+    let meaning = "an index below 65,280 is written in four bytes instead of two";
+    let printed = format!(
+        "shield.lwo: refused 22 at 116 (POLS at 102): {meaning}; \
+         found point 0 in four bytes, expected two\n"
+    );
+    let checked = run(&samples(), &["check", "shield.lwo"]);
+    assert_eq!(checked, Run::new(1, &printed, ""));
+    let printed = format!(
+        "{{\"file\":\"shield.lwo\",\"accepted\":false,\"refused\":{{\"number\":22,\"place\":116,\
+         \"chunk\":102,\"tag\":\"POLS\",\"meaning\":\"{meaning}\",\
+         \"found\":\"point 0 in four bytes\",\"expected\":\"two\"}}}}\n"
+    );
+    let checked = run(&samples(), &["check", "--json", "shield.lwo"]);
+    assert_eq!(checked, Run::new(1, &printed, ""));
+}
+
 /// What a file holds cannot end the line, move the cursor or hide a part of it.
 #[test]
 fn what_was_found_stays_on_its_line() {

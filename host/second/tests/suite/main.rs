@@ -2,6 +2,7 @@
 
 mod boundary;
 mod help;
+mod indices;
 mod layers;
 mod mutated;
 mod places;

@@ -27,7 +27,7 @@ fn are_refused_or_read_whole() {
         }
     }
     // The mutations must reach most refusals, or they test little.
-    for number in (0..=15).chain([19, 20]).filter(|&number| number != 1) {
+    for number in (0..=15).chain([19, 20, 22]).filter(|&number| number != 1) {
         let seen = numbers.get(&number).copied().unwrap_or(0);
         assert!(seen >= 10, "number {number} came {seen} times");
     }
@@ -77,6 +77,16 @@ fn numbers_of(tag: &[u8; 4]) -> BTreeMap<u64, u64> {
         }
     }
     numbers
+}
+
+/// Every chunk in which a VX is read is refused for a small index in the long
+/// form.
+#[test]
+fn are_refused_for_their_indices() {
+    for tag in [b"POLS", b"PTAG", b"SURF"] {
+        let times = numbers_of(tag).get(&22).copied().unwrap_or(0);
+        assert!(times >= 30, "{tag:?} {times}");
+    }
 }
 
 /// Every refusal that a LAYR can have comes up, and 4 for its header.

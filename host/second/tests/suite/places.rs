@@ -96,14 +96,16 @@ fn lie_in_a_chunk_that_is_cut() {
 /// always at its first byte.
 #[test]
 fn are_those_of_the_items() {
-    let mut seen = 0;
+    let (mut seen, mut long) = (0, 0);
     for seed in 0..20_000 {
         let file = mutation(seed);
         let Err(refusal) = rules(&file) else {
             continue;
         };
-        // Lists of polygons and taggings hold nothing but such items.
-        if !matches!(refusal.number(), 8..=12 | 14) {
+        // Lists of polygons and taggings hold nothing but such items; the
+        // envelopes of a SURF lie in sub-chunks.
+        let of_item = matches!(refusal.number(), 8..=12 | 14 | 22);
+        if !of_item || tag_at(&file, refusal.chunk) == *b"SURF" {
             continue;
         }
         let there = (refusal.place() - refusal.chunk) as usize - 8;
@@ -117,8 +119,15 @@ fn are_those_of_the_items() {
         let size = if told(2) == (19, place) { 4 } else { 2 };
         assert_eq!(told(size), (number, place), "seed {seed}");
         seen += 1;
+        long += u64::from(number == 22);
     }
     assert!(seen > 1_000, "{seen}");
+    assert!(long > 100, "{long}");
+}
+
+fn tag_at(file: &[u8], chunk: u64) -> [u8; 4] {
+    let at = chunk as usize;
+    file[at..at + 4].try_into().expect("four bytes")
 }
 
 /// One more unlisted chunk at every boundary of a refused file: the refusal

@@ -3,7 +3,9 @@
 //!
 //! The lines of levels `base` and `103` are without request #101: they have 6
 //! where an item is cut or a string is open, and the chunk's place. Those of
-//! levels `101` and `101,103` have the numbers and places that are told.
+//! levels `101` and `101,103` have the numbers and places that are told. Those
+//! of level `all` do too, where they are about request #107; the others of them
+//! belong to requests that are still to come.
 
 use second::{rules, Mesh, Record};
 
@@ -57,9 +59,18 @@ fn verdict_without_101(file: &[u8]) -> String {
 /// Every line of a level has its answer and not that of the other reading.
 /// Says how many there are.
 fn check_level(level: &str, verdict: fn(&[u8]) -> String) -> usize {
+    let ran = check_lines(|example| example.level == level, verdict);
+    let start = format!("{level} ");
+    let listed = LINES.lines().filter(|line| line.starts_with(&start));
+    assert_eq!(ran, listed.count());
+    ran
+}
+
+/// The same of the lines of which this holds.
+fn check_lines(holds: impl Fn(&Example) -> bool, verdict: fn(&[u8]) -> String) -> usize {
     let mut ran = 0;
     for example in examples() {
-        if example.level != level {
+        if !holds(&example) {
             continue;
         }
         let told = verdict(&example.file);
@@ -69,9 +80,6 @@ fn check_level(level: &str, verdict: fn(&[u8]) -> String) -> usize {
         }
         ran += 1;
     }
-    let start = format!("{level} ");
-    let listed = LINES.lines().filter(|line| line.starts_with(&start));
-    assert_eq!(ran, listed.count());
     ran
 }
 
@@ -90,6 +98,39 @@ fn every_line_of_101() {
 fn every_line_of_103() {
     assert_eq!(check_level("101,103", verdict), 4);
     assert_eq!(check_level("103", verdict_without_101), 1);
+}
+
+/// The requests that the two readings of a line of level `all` are about: #107
+/// where an index is in the long form, #111 where a PTAG has its type, #114
+/// where one of them is its number.
+fn requests(example: &Example) -> Vec<u32> {
+    let holds = |bytes: &[u8]| example.file.windows(bytes.len()).any(|some| some == bytes);
+    let said = |start: &str| example.answer.starts_with(start) || example.other.starts_with(start);
+    let signs = [
+        (107, holds(&[0xff, 0x00])),
+        (111, holds(b"PART")),
+        (114, said("refused 26 ")),
+    ];
+    let met = signs.into_iter().filter(|&(_, met)| met);
+    met.map(|(request, _)| request).collect()
+}
+
+#[test]
+fn every_line_of_107() {
+    let of_107 = |example: &Example| example.level == "all" && requests(example) == [107];
+    assert_eq!(check_lines(of_107, verdict), 4);
+}
+
+/// Each line of level `all` is about one request, so that none is left out
+/// unseen.
+#[test]
+fn the_other_lines_of_all_belong_to_later_requests() {
+    let lines = examples();
+    let all = lines.iter().filter(|example| example.level == "all");
+    let found: Vec<Vec<u32>> = all.map(requests).collect();
+    let times = |request| found.iter().filter(|one| **one == [request]).count();
+    assert_eq!([107, 111, 114].map(times), [4, 1, 5]);
+    assert_eq!(found.len(), 4 + 1 + 5);
 }
 
 #[test]

@@ -1,5 +1,7 @@
 //! Generated valid files: what each must give is said by the generator.
 
+use cases::assemble::Kind;
+use cases::indices::{indices, is_short};
 use cases::insert::{boundaries, with_unlisted};
 use cases::plain::PlainMesh;
 use cases::random::Random;
@@ -152,7 +154,24 @@ fn exercise_the_rules() {
         assert!(count(&several) > 300, "several {tag:?}");
     }
     assert!(count(&|one| tags(one, b"PCHS") > 0) > 100, "PCHS");
+    assert!(count(&has_long_index) > 300, "long indices");
+    assert!(
+        count(&has_bytes_of_one) > 300,
+        "bytes of a small long index"
+    );
     assert!(count(&|one| whole_layers(one) > 1) > 100, "whole layers");
+}
+
+/// Whether an index has the long form.
+fn has_long_index(one: &Valid) -> bool {
+    let file = one.parts.file();
+    one.parts.kind == Kind::Lwo2 && indices(&file).iter().any(|index| !is_short(&file, index))
+}
+
+/// Whether a small index in the long form could be seen where no VX is read.
+fn has_bytes_of_one(one: &Valid) -> bool {
+    let long = |bytes: &[u8]| bytes[..3] == [0xff, 0, 0];
+    one.parts.kind == Kind::Lwo2 && one.parts.file().windows(4).any(long)
 }
 
 /// How many LAYR have a tagged list of polygons before the next one.

@@ -1,5 +1,6 @@
 //! The worked table of document 01, a to l, with what request #101 says of two
-//! rows: "case k stays and case f becomes 19".
+//! rows, "case k stays and case f becomes 19", and #107 of one: "Document 01's
+//! case e becomes this refusal."
 
 use second::canonical;
 use second::items::Cursor;
@@ -43,17 +44,25 @@ fn b_a_wrong_form_length() {
 }
 
 #[test]
-fn c_d_e_indices() {
-    let rows: [(&[u8], u32, usize); 3] = [
+fn c_d_indices() {
+    let rows: [(&[u8], u32, usize); 2] = [
         (&[0xfe, 0xff], 65_279, 2),
         (&[0xff, 0x00, 0xff, 0x00], 65_280, 4),
-        (&[0xff, 0x00, 0x00, 0x05], 5, 4),
     ];
     for (bytes, index, length) in rows {
         let mut cursor = over(bytes);
         assert_eq!(cursor.vx(), Ok(index));
         assert_eq!(cursor.at(), length);
     }
+}
+
+#[test]
+fn e_a_small_index_in_the_long_form() {
+    let flaw = over(&[0xff, 0x00, 0x00, 0x05]).vx();
+    let flaw = flaw.expect_err("a small index in the long form");
+    assert_eq!(flaw.fault, Fault::LongIndex);
+    assert_eq!(flaw.fault.number(), 22);
+    assert_eq!(flaw.at, 0);
 }
 
 #[test]

@@ -40,6 +40,7 @@ pub fn expected(kind: K, spot: &Spot) -> Option<Expected> {
         K::SideOrBlock => items::side(spot).or_else(|| headers::block(spot)),
         K::ItemCut => items::cut(spot),
         K::StringOpen => strings::open_string(spot),
+        K::LongIndex => items::long_index(spot),
         _ => None,
     }
 }

@@ -32,7 +32,7 @@ pub fn holders(file: &[u8], refusal: &Refusal) -> Vec<Chunk> {
 /// which of the two chunks is meant.
 fn rule(kind: RefusalKind, place: usize) -> Option<impl Fn(&Chunk) -> bool> {
     let missing = matches!(kind, RefusalKind::ItemCut | RefusalKind::StringOpen);
-    let in_file = missing || (4..=15).contains(&kind.number());
+    let in_file = missing || matches!(kind.number(), 4..=15 | 22);
     let holds = move |chunk: &Chunk| match missing {
         true => (chunk.body..=chunk.end).contains(&place),
         false => (chunk.start..chunk.end).contains(&place),

@@ -12,6 +12,9 @@ use crate::command::chunks::{chunks, Chunk};
 /// The bytes of a float.
 const FLOAT: usize = 4;
 
+/// The lowest index that is written in four bytes.
+const FIRST_LONG: u32 = 65_280;
+
 /// 7: a float that is infinite or no number, and whose it is.
 pub fn not_finite(spot: &Spot) -> Option<Expected> {
     let bytes = spot.bytes()?;
@@ -204,6 +207,27 @@ fn index_lengths(first: Option<&u8>) -> &'static [usize] {
         None => &[2, 4],
         Some(255) => &[4],
         Some(_) => &[2],
+    }
+}
+
+/// 22: an index that has four bytes and should have two.
+pub fn long_index(spot: &Spot) -> Option<Expected> {
+    let (what, index) = (indexed(spot)?, spot.vx()?);
+    let is_long = index_lengths(spot.rest()?.first()) == [4];
+    (is_long && index < FIRST_LONG).then(|| Expected {
+        found: format!("{what} {index} in four bytes"),
+        expected: String::from("two"),
+    })
+}
+
+/// What an index at the place is the number of, by its chunk; None where no index is read.
+fn indexed(spot: &Spot) -> Option<&'static str> {
+    let (kind, tags) = spot.tags();
+    match (kind, &tags[..]) {
+        (b"LWO2", [b"POLS"]) => Some("point"),
+        (b"LWO2", [b"PTAG"]) if spot.body()?.starts_with(b"SURF") => Some("polygon"),
+        (b"LWO2", [b"SURF", tag]) if spot.offset()? == lwo2_levels(tag)? => Some("envelope"),
+        _ => None,
     }
 }
 

@@ -39,6 +39,12 @@ impl<'a> Spot<'a> {
         self.innermost().filter(|chunk| chunk.start == self.place)
     }
 
+    /// The body of the innermost chunk.
+    pub fn body(&self) -> Option<&'a [u8]> {
+        let chunk = self.innermost()?;
+        self.file.get(chunk.body..chunk.end)
+    }
+
     /// How far the place lies behind the first byte of the innermost chunk's body.
     pub fn offset(&self) -> Option<usize> {
         self.place.checked_sub(self.innermost()?.body)

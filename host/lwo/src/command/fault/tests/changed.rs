@@ -51,7 +51,7 @@ fn every_refusal_is_told_with_its_chunk_and_with_what_was_found() {
         must_be_plausible(&fault);
         numbers.insert(refusal.number());
     }
-    let all: BTreeSet<u64> = (2..=15).chain([19, 20]).collect();
+    let all: BTreeSet<u64> = (2..=15).chain([19, 20, 22]).collect();
     assert_eq!(numbers, all);
 }
 
@@ -97,6 +97,7 @@ fn must_be_plausible(fault: &Fault) {
         }
         [each, "for", "each", ..] => found % number(each) == 0,
         [least, "bytes", "or", "more"] => found >= number(least),
+        ["two"] => found >= 65_280,
         [one] | [one, "(PNTS" | "(POLS" | "(TAGS" | "(SRFS", ..] if one.parse::<i64>().is_ok() => {
             found == number(one)
         }

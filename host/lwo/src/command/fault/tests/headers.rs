@@ -204,9 +204,9 @@ fn lengths_of_surface_values() {
     for (tag, body, length) in [
         (b"SIDE", vec![0, 3, 0, 0], 2),
         (b"DIFF", join(&[&level[..], &vx_short(0), &u2(0)]), 6),
-        (b"REFL", join(&[&level[..], &vx_long(0), &[0]]), 8),
+        (b"REFL", join(&[&level[..], &vx_long(65_280), &[0]]), 8),
         (b"COLR", join(&[&colour[..], &vx_short(0), &[0]]), 14),
-        (b"COLR", join(&[&colour[..], &vx_long(0), &u2(0)]), 16),
+        (b"COLR", join(&[&colour[..], &vx_long(65_280), &u2(0)]), 16),
     ] {
         let text = format!(
             "refused 6 at 36 ({} at 36 of SURF at 12); found a length of {}, expected {length}",

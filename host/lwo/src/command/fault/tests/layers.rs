@@ -1,6 +1,6 @@
 //! LAYR of LWO2: what is wrong in it, and what it begins anew.
 
-use cases::assemble::{chunk, f4, join, string, u2};
+use cases::assemble::{chunk, f4, join, string, u2, vx_long};
 
 use super::{face, layer, lwo2, lwob, names, points, told, LAYER_ITEMS};
 
@@ -51,6 +51,7 @@ fn numbers_in_a_layer() {
     let one = chunk(b"PNTS", &[0; 12]);
     let polygon = chunk(b"POLS", b"PTCH\0\x01\0\x01");
     let two = [&b"FACE"[..], &[0, 1, 0, 0].repeat(2)].concat();
+    let long = join(&[&b"FACE"[..], &u2(1), &vx_long(2)]);
     let first_layer = [names(b"TAGS"), points(), chunk(b"POLS", &two)];
     let pair = |polygon, tag| {
         let pair = chunk(b"PTAG", &join(&[&b"SURF"[..], &u2(polygon), &u2(tag)]));
@@ -73,6 +74,10 @@ fn numbers_in_a_layer() {
         (
             pair(0, 2),
             "refused 10 at 198 (PTAG at 184); found tag 2, expected 0 to 1 (TAGS at 12)",
+        ),
+        (
+            lwo2(&[layer(b""), points(), chunk(b"POLS", &long)]),
+            "refused 22 at 98 (POLS at 84); found point 2 in four bytes, expected two",
         ),
     ] {
         assert_eq!(told(&file), text);

@@ -25,6 +25,11 @@ fn points() -> Vec<u8> {
     chunk(b"PNTS", &[0; 36])
 }
 
+/// One point more than two bytes have indices for, 783,380 bytes.
+fn many_points() -> Vec<u8> {
+    chunk(b"PNTS", &[0; 12 * 65_281])
+}
+
 /// `Oak` and `Ash`, 16 bytes.
 fn names(tag: &Tag) -> Vec<u8> {
     chunk(tag, b"Oak\0Ash\0")

@@ -3,7 +3,7 @@
 use cases::assemble::{chunk, f4, i2, join, string, sub_chunk, u2, vx_long, vx_short};
 use lwo::{Counts, Refusal, RefusalKind as K};
 
-use super::{face, layer, lwo2, lwob, names, points, Fault};
+use super::{face, layer, lwo2, lwob, many_points, names, points, Fault};
 use crate::command::chunks::chunks;
 
 /// Nothing is told of a file that the library accepts, as if it were refused.
@@ -59,13 +59,38 @@ fn items_and_strings_of_lwo2() {
         (K::PolygonType, 80),
         (K::VertexCount, 84),
         (K::VertexNumber, 90),
+        (K::LongIndex, 90),
         (K::ItemCut, 80),
         (K::ItemCut, 90),
         (K::PolygonNumber, 104),
+        (K::LongIndex, 104),
         (K::Surface, 106),
         (K::ItemCut, 106),
     ] {
         is_silent(&file, kind, place);
+    }
+}
+
+/// An index in four bytes is right from 65,280 on, as the vertex at 783,406 is, and where it is not
+/// judged, as the one at 783,422 in a PTAG that is not of type SURF. LWOB has numbers of two bytes
+/// alone, as the vertex at 783,418.
+#[test]
+fn long_indices() {
+    let face = join(&[&b"FACE"[..], &u2(1), &vx_long(65_280)]);
+    let group = join(&[&b"SMGP"[..], &vx_long(0), &u2(0)]);
+    let file = lwo2(&[many_points(), chunk(b"POLS", &face), chunk(b"PTAG", &group)]);
+    for (kind, place) in [
+        (K::LongIndex, 783_406),
+        (K::VertexNumber, 783_406),
+        (K::ItemCut, 783_406),
+        (K::LongIndex, 783_422),
+    ] {
+        is_silent(&file, kind, place);
+    }
+    let face = chunk(b"POLS", &join(&[u2(1), u2(65_280), i2(1)]));
+    let file = lwob(&[many_points(), names(b"SRFS"), face]);
+    for kind in [K::LongIndex, K::VertexNumber, K::ItemCut] {
+        is_silent(&file, kind, 783_418);
     }
 }
 
@@ -111,14 +136,21 @@ fn items_of_lwob() {
 
 #[test]
 fn surfaces() {
-    let colour = join(&[f4(0), f4(0), f4(0), vx_long(1)]);
-    let block = |tag| sub_chunk(b"BLOK", &sub_chunk(tag, &string(b"a")));
+    let colour = join(&[f4(0), f4(0), f4(0), vx_long(65_280)]);
+    // A level that looks like an index in four bytes, and such an index in a block, where none is
+    // judged.
+    let diffuse = join(&[f4(0xff00_0001), vx_short(0)]);
+    let long = sub_chunk(b"DIFF", &join(&[f4(0), vx_long(1)]));
+    let block = |tag| {
+        let first = sub_chunk(tag, &string(b"a"));
+        sub_chunk(b"BLOK", &join(&[&first, &long]))
+    };
     let body = [
         string(b"Lime"),
         string(b"oak"),
         sub_chunk(b"SIDE", &u2(3)),
         sub_chunk(b"COLR", &colour),
-        sub_chunk(b"DIFF", &join(&[f4(0), vx_short(0)])),
+        sub_chunk(b"DIFF", &diffuse),
         block(b"IMAP"),
         block(b"PROC"),
         block(b"GRAD"),
@@ -149,6 +181,10 @@ fn surfaces() {
         (K::ItemCut, colour + 14),
         (K::ItemCut, colour + 18),
         (K::ItemCut, diffuse + 10),
+        (K::LongIndex, colour + 18),
+        (K::LongIndex, diffuse + 6),
+        (K::LongIndex, diffuse + 10),
+        (K::LongIndex, blocks[0] + 24),
         (K::StringOpen, blocks[0] + 12),
     ] {
         is_silent(&file, kind, place);
