@@ -40,7 +40,7 @@ unfoldable pub _>>=_ : {A B : Type 0} → Reader A → (A → Reader B) → Read
 _>>=_ r f at s = r at s andThen λ g. f (g .value) (g .next) (g .left)
 
 -- "an item that is cut (6) before its value is judged; where one item has several faults, the lower number": of two tests of one item that of the lower number
--- stands first, a detail's 14 apart.
+-- stands first, a detail's 14 and an index's 22 apart.
 infixl 15 _or_unless_
 unfoldable pub _or_unless_ : {A : Type 0} → Reader A → Fault → (A → Bool) → Reader A
 _or_unless_ r why ok at s = r at s andThen λ g. if ok (g .value) then fine g else fault why at
