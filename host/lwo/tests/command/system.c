@@ -3,6 +3,8 @@
  * does on a bad day happens at a known time.
  *
  *   SIGNAL_AT_SYNC=N  the signal N comes when a file is put on the disk
+ *   ENDED_BY=N        the signal N ends the command, even where it was started to
+ *                     pass it over, as tests under nohup are
  *   TELL_MODE=1       the mode that a file had before it is changed is told
  *   NO_LINKS=1        the file system has no hard links
  *   TAKEN=1           another program takes a name just before it is given
@@ -16,6 +18,14 @@
 #include <sys/stat.h>
 #include <sys/syscall.h>
 #include <unistd.h>
+
+__attribute__((constructor)) static void begin(void)
+{
+    const char *number = getenv("ENDED_BY");
+    if (number != NULL) {
+        signal(atoi(number), SIG_DFL);
+    }
+}
 
 int fsync(int file)
 {

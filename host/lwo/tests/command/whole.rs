@@ -260,7 +260,8 @@ fn what_is_there_stays_when_writing_fails() {
     }
 }
 
-/// The signal comes when all bytes are written and the file has not its name yet.
+/// The signal comes when all bytes are written and the file has not its name yet. It ends the
+/// command, however the tests themselves were started.
 #[test]
 fn an_interrupted_command_leaves_nothing() {
     let folder = folder_with("interrupted", &["oak.lwo", "panel.lwo"]);
@@ -269,6 +270,7 @@ fn an_interrupted_command_leaves_nothing() {
             let ended = lwo(&folder, &["canonical", "-f", "oak.lwo", out])
                 .env("LD_PRELOAD", system())
                 .env("SIGNAL_AT_SYNC", number.to_string())
+                .env("ENDED_BY", number.to_string())
                 .status();
             assert_eq!(ended.expect("it starts").signal(), Some(number));
             assert_eq!(read(&folder, "panel.lwo"), sample("panel.lwo"));
