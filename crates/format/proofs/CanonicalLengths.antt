@@ -9,7 +9,7 @@ use lib.Dec.{ltb, eqb}
 use lib.ListN.{length, replicate, length-append, length-replicate}
 use borrow.Author.Tests.{lt-ltb, le-ltb}
 use Rattle.format.specs.Bytes.{if_then_else_, spelt, joined}
-use Rattle.format.specs.Items.{stringSize}
+use Rattle.format.specs.Items.{firstLong, stringSize}
 use Rattle.format.specs.Mesh.{Point, FACE, Name}
 use Rattle.format.specs.Canonical.{bytes, vxBytes, stringBytes, pointBytes, typeOf, formBytes}
 
@@ -20,19 +20,19 @@ length-bytes (suc k) n = length-append (bytes k (n / 256)) (n % 256 ∷ []) ∙ 
 
 pub length-vx : (n : ℕ) → 2 ≤ length (vxBytes n)
 unfolding vxBytes
-length-vx n = go (ltb n 65280)
+length-vx n = go (ltb n firstLong)
   where
     go : (b : Bool) → 2 ≤ length (if b then bytes 2 n else bytes 4 (0xFF00_0000 + n))
     go true = omega (arith, length-bytes 2 n)
     go false = omega (arith, length-bytes 4 (0xFF00_0000 + n))
 
-pub short-vx : (n : ℕ) → n < 65280 → length (vxBytes n) ≡ 2
+pub short-vx : (n : ℕ) → n < firstLong → length (vxBytes n) ≡ 2
 unfolding vxBytes
-short-vx n small = rw (lt-ltb n 65280 small) (length-bytes 2 n)
+short-vx n small = rw (lt-ltb n firstLong small) (length-bytes 2 n)
 
-pub long-vx : (n : ℕ) → 65280 ≤ n → length (vxBytes n) ≡ 4
+pub long-vx : (n : ℕ) → firstLong ≤ n → length (vxBytes n) ≡ 4
 unfolding vxBytes
-long-vx n large = rw (le-ltb n 65280 large) (length-bytes 4 (0xFF00_0000 + n))
+long-vx n large = rw (le-ltb n firstLong large) (length-bytes 4 (0xFF00_0000 + n))
 
 pub length-string : (n : Name) → length (stringBytes n) ≡ stringSize (length n)
 unfolding stringBytes

@@ -90,10 +90,10 @@ module _ {s : List ℕ} {at : ℕ} where
   pub long-cut : ReadsAt u4 (taking 4) s at (fault ItemCut at) → ReadsAt longForm (taking 4) s at (fault ItemCut at)
   long-cut r = record { says = cut LongIndex (leb firstLong) (off _ (r .says)); moves = tt }
 
-  pub long-is : {v nx : ℕ} → ReadsAt u4 (taking 4) s at (got s v nx) → 65280 ≤ v % 16777216 → ReadsAt longForm (taking 4) s at (got s (v % 16777216) nx)
+  pub long-is : {v nx : ℕ} → ReadsAt u4 (taking 4) s at (got s v nx) → firstLong ≤ v % 16777216 → ReadsAt longForm (taking 4) s at (got s (v % 16777216) nx)
   long-is r large = record { says = good LongIndex (leb firstLong) (low24-is r) (le-leb firstLong _ large); moves = r .moves }
 
-  pub long-bad : {v nx : ℕ} → ReadsAt u4 (taking 4) s at (got s v nx) → v % 16777216 < 65280 → ReadsAt longForm (taking 4) s at (fault LongIndex at)
+  pub long-bad : {v nx : ℕ} → ReadsAt u4 (taking 4) s at (got s v nx) → v % 16777216 < firstLong → ReadsAt longForm (taking 4) s at (fault LongIndex at)
   long-bad r small = record { says = bad LongIndex (leb firstLong) (low24-is r) (lt-leb firstLong _ small); moves = tt }
 
   -- an index, by the form that its first byte tells

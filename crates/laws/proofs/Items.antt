@@ -60,7 +60,7 @@ reads-vx n small = go (ltb n firstLong) refl
     go : (b : Bool) → ltb n firstLong ≡ b → ReadsAs vx (if b then bytes 2 n else bytes 4 (0xFF00_0000 + n)) n
     go true e = record {
       here = λ at rest.
-          let below : n < 65280 = ltb-true _ _ e in
+          let below : n < firstLong = ltb-true _ _ e in
           let low : n / 256 % 256 ≡ 255 → ⊥ = omega arith in
           rw (ne-eqb (n / 256 % 256) 255 low) (reads-uint 2 n (omega arith) .here at rest);
     }
