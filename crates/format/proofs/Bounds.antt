@@ -3,7 +3,7 @@
 use Prim.Native.Nat.{ℕ, _+_, _*_, _/_, _%_, _≤_, _<_}
 use mathlib.Core.Path.{_≡_, refl}
 use mathlib.Core.List.{List, [], _∷_}
-use mathlib.Core.Bool.{Bool, true, false, not, _&&_, _||_, and-eq-true-iff}
+use mathlib.Core.Bool.{Bool, true, false, not, _&&_, _||_, and-eq-true-iff, and-true}
 use native.Mathlib.Omega.{arith}
 use native.Mathlib.Nat.{mul-div-cancel, mul-mod-left}
 use lib.Dec.{leb, ltb, eqb}
@@ -126,21 +126,21 @@ mesh-entries t e = (
   few recordSize (t .records) (every-at _ 5 e),
 )
 
--- ---- 17: "a surface above the name count or 65,536"
+-- ---- 17: "a surface above the name count or 65,536", and #111: "A part above the name count or 65,536 is 17."
 
--- of a surface that is not above the name count: up to the number it is as good as none
-pub surface-allowed : (points names : ℕ) (p : Polygon) → p .surface ≤ names
-    → goodPolygon points names p ≡ (goodPolygon points names (polygonOf (p .kind) 0 (p .vertices)) && leb (p .surface) 65536)
+-- of a surface and a part name that are not above the name count: up to the number they are as good as none
+pub tags-allowed : (points names : ℕ) (p : Polygon) → p .surface ≤ names → p .partName ≤ names
+    → goodPolygon points names p ≡ (goodPolygon points names (polygonOf (p .kind) 0 0 (p .vertices)) && (leb (p .surface) 65536 && leb (p .partName) 65536))
 unfolding goodPolygon every
-surface-allowed points names p h =
-    by (between FACE PATCH (p .kind)) (between 1 lwo2VertexLimit (length (p .vertices))) (all (λ v. ltb v points) (p .vertices)) (leb (p .surface) 65536) (le-leb (p .surface) names h) (le-leb 0 names (omega arith))
+tags-allowed points names p surface part =
+    rw (le-leb (p .surface) names surface, le-leb (p .partName) names part, le-leb 0 names (omega arith), and-true (leb (p .partName) 65536))
+    (by (between FACE PATCH (p .kind)) (between 1 lwo2VertexLimit (length (p .vertices))) (all (λ v. ltb v points) (p .vertices)) _)
   where
-    by : (a b c d : Bool) {e f : Bool} → e ≡ true → f ≡ true → every (a ∷ b ∷ c ∷ e ∷ d ∷ []) ≡ (every (a ∷ b ∷ c ∷ f ∷ true ∷ []) && d)
-    by true true true true e f = rw (e, f)
-    by true true true false e f = rw (e, f)
-    by true true false d e f = refl
-    by true false c d e f = refl
-    by false b c d e f = refl
+    by : (a b c d : Bool) → (a && (b && (c && d))) ≡ ((a && (b && (c && true))) && d)
+    by true true true d = refl
+    by true true false d = refl
+    by true false c d = refl
+    by false b c d = refl
 
 -- ---- "Shortest VX": the last index of two bytes, and the first of four
 

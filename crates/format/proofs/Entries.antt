@@ -96,15 +96,19 @@ pub record ManyLoop {A B : Type 0} (goal : Verdict (Got B)) (r : Reader A) (s : 
   pub enough : length s ≤ at + fuel
   pub rest : goal ≡ keep f (upTo fuel r at (drop at s))
 
--- what is made of the entries, and what is kept of that
+-- what is kept of the entries
+pub many-alone : {A B : Type 0} {r : Reader A} {s : List ℕ} {at : ℕ} (h f : List A → B) → ((xs : List A) → h xs ≡ f xs)
+    → ManyLoop (keep h (many r at (drop at s))) r s at f
+unfolding many
+many-alone {r} {s} {at} h f e = record { fuel = length (drop at s); enough = rw length-drop (omega arith); rest = keep-same h f _ e }
+
+-- what is made of them, and what is kept of that
 pub many-begin : {A B C : Type 0} {r : Reader A} {s : List ℕ} {at : ℕ} (k : List A → C) (h : C → B) (f : List A → B) → ((xs : List A) → h (k xs) ≡ f xs)
     → ManyLoop (keep h ((many r >>= (λ xs. give (k xs))) at (drop at s))) r s at f
-unfolding many _>>=_
-many-begin {r} {s} {at} k h f e = record {
-  fuel = length (drop at s);
-  enough = rw length-drop (omega arith);
-  rest = keep-keep h k (upTo (length (drop at s)) r at (drop at s)) ∙ keep-same (λ xs. h (k xs)) f _ e;
-}
+unfolding _>>=_
+many-begin {r} {s} {at} k h f e =
+    let alone = many-alone {r = r} {s = s} {at = at} (λ xs. h (k xs)) f e in
+    record { fuel = alone .fuel; enough = alone .enough; rest = keep-keep h k (many r at (drop at s)) ∙ alone .rest }
 
 module _ {A B : Type 0} {goal : Verdict (Got B)} {r : Reader A} {s : List ℕ} {at : ℕ} {f : List A → B} (t : ManyLoop goal r s at f) where
   pub many-end : length s ≤ at → got s (f []) at ≡ goal

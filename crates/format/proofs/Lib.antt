@@ -23,3 +23,4 @@ pub mod OneNameList
 pub mod SizeBound
 pub mod Layers
 pub mod LongIndices
+pub mod PartNames

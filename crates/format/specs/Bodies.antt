@@ -73,7 +73,7 @@ layerBody = do number ← u2; flags ← u2; pivot ← point; called ← string; 
 abbrev pub vertex : (item : Reader ℕ) (pointCount : ℕ) → Reader ℕ
 vertex item pointCount = item or VertexNumber unless (λ v. ltb v pointCount)
 
--- LWOB: "count U2, vertices U2, surface I2". "Vertices per polygon: 1 to 200 in LWOB, 1 to 1,023 in LWO2."
+-- LWOB: "count U2, vertices U2, surface I2". "Vertices per polygon: 1 to 200 in LWOB, 1 to 1,023 in LWO2." Of the part name "LWOB gives 0".
 unfoldable pub lwobVertices : (pointCount : ℕ) → Reader (List ℕ)
 lwobVertices pointCount = do n ← u2 or VertexCount unless between 1 lwobVertexLimit; times n (vertex u2 pointCount)
 
@@ -99,7 +99,7 @@ face pointCount nameCount = do
   vs ← lwobVertices pointCount
   z ← i2 or SurfaceNumber unless inNameList nameCount
   n ← detailsAfter pointCount nameCount z
-  give (polygonOf FACE (absolute z) vs, n)
+  give (polygonOf FACE (absolute z) 0 vs, n)
 
 unfoldable pub facesBody : (pointCount nameCount : ℕ) → Reader Part
 facesBody pointCount nameCount = do
@@ -111,7 +111,7 @@ unfoldable pub patch : (pointCount nameCount : ℕ) → Reader Polygon
 patch pointCount nameCount = do
   vs ← lwobVertices pointCount
   z ← i2 or SurfaceNumber unless (λ z. not (negative z) && inNameList nameCount z)
-  give (polygonOf PATCH (absolute z) vs)
+  give (polygonOf PATCH (absolute z) 0 vs)
 
 unfoldable pub patchesBody : (pointCount nameCount : ℕ) → Reader Part
 patchesBody pointCount nameCount = do ps ← many (patch pointCount nameCount); give (polygonList ps 0)
@@ -124,7 +124,7 @@ unfoldable pub lwo2Vertices : (pointCount : ℕ) → Reader (List ℕ)
 lwo2Vertices pointCount = do n ← u2 or VertexCount unless (λ n. leb 1 (countBits n)); times (countBits n) (vertex vx pointCount)
 
 unfoldable pub polygon : (pointCount kind : ℕ) → Reader Polygon
-polygon pointCount kind = do vs ← lwo2Vertices pointCount; give (polygonOf kind 0 vs)
+polygon pointCount kind = do vs ← lwo2Vertices pointCount; give (polygonOf kind 0 0 vs)
 
 -- 12: "POLS type neither FACE nor PTCH"
 abbrev pub polygonType : ℕ → Bool
@@ -140,18 +140,22 @@ polygonsBody pointCount = do
   ps ← many (polygon pointCount (polygonKind t))
   give (polygonList ps 0)
 
--- PTAG: "Type SURF: pairs of polygon (VX) and tag (U2, from 0) into the latest POLS and the TAGS so far." Surfaces are numbered from 1.
+-- PTAG: "Type SURF: pairs of polygon (VX) and tag (U2, from 0) into the latest POLS and the TAGS so far." Surfaces and part names are numbered from 1.
 unfoldable pub pair : (polygonCount nameCount : ℕ) → Reader (ℕ × ℕ)
 pair polygonCount nameCount = do
   p ← vx or PolygonNumber unless (λ p. ltb p polygonCount)
   t ← u2 or SurfaceNumber unless (λ t. ltb t nameCount)
   give (p, suc t)
 
+-- #111: "PART pairs are read like SURF pairs, with the same checks and numbers 10 and 11"
+abbrev pub pairsType : ℕ → Bool
+pairsType t = t is "SURF" || t is "PART"
+
 -- "Other types: four type bytes are required and the rest isn't judged."
 unfoldable pub taggingBody : (polygonCount nameCount : ℕ) → Reader Part
 taggingBody polygonCount nameCount = do
   t ← u4
-  ps ← if t is "SURF" then many (pair polygonCount nameCount) else unjudged []
+  ps ← if pairsType t then many (pair polygonCount nameCount) else unjudged []
   give (tagging t ps)
 
 -- ---- surfaces

@@ -34,10 +34,10 @@ pointBytes p = joined (map (bytes 4) (pointWords p))
 unfoldable pub polygonBytes : Polygon → List ℕ
 polygonBytes p = bytes 2 (length (p .vertices)) ++ joined (map vxBytes (p .vertices))
 
--- the tagged polygons of a run and their surfaces, "ascending"; i is the number of the first polygon
-unfoldable pub pairsOf : (i : ℕ) → List Polygon → List (ℕ × ℕ)
-pairsOf i [] = []
-pairsOf i (p ∷ r) = (if eqb (p .surface) 0 then [] else (i, p .surface) ∷ []) ++ pairsOf (suc i) r
+-- the polygons of a run that have such a number, its surface or its part name, and the number, "ascending"; i is the number of the first polygon
+unfoldable pub pairsOf : (number : Polygon → ℕ) → (i : ℕ) → List Polygon → List (ℕ × ℕ)
+pairsOf number i [] = []
+pairsOf number i (p ∷ r) = (if eqb (number p) 0 then [] else (i, number p) ∷ []) ++ pairsOf number (suc i) r
 
 unfoldable pub pairBytes : ℕ × ℕ → List ℕ
 pairBytes t = vxBytes (t .0) ++ bytes 2 (t .1 - 1)
@@ -82,10 +82,16 @@ unlessEmpty tag type bytesOf (x ∷ xs) = (tag, spelt type ++ joined (map bytesO
 abbrev pub typeOf : (kind : ℕ) → String
 typeOf kind = if eqb kind FACE then "FACE" else "PTCH"
 
--- "a POLS and a PTAG SURF for its tagged polygons"
+abbrev pub taggingChunk : (type : String) → (number : Polygon → ℕ) → List Polygon → List (String × List ℕ)
+taggingChunk type number run = unlessEmpty "PTAG" type pairBytes (pairsOf number 0 run)
+
+-- "a POLS and a PTAG SURF for its tagged polygons"; #111: "a PTAG PART for each run with a part name, after its PTAG SURF if any"
 unfoldable pub runChunks : List Polygon → List (String × List ℕ)
 runChunks [] = []
-runChunks (p ∷ r) = unlessEmpty "POLS" (typeOf (p .kind)) polygonBytes (p ∷ r) ++ unlessEmpty "PTAG" "SURF" pairBytes (pairsOf 0 (p ∷ r))
+runChunks (p ∷ r) =
+    unlessEmpty "POLS" (typeOf (p .kind)) polygonBytes (p ∷ r)
+    ++ (taggingChunk "SURF" (λ q. q .surface) (p ∷ r)
+    ++ taggingChunk "PART" (λ q. q .partName) (p ∷ r))
 
 -- "then a SURF for each defined name in order"
 unfoldable pub surfaceChunks : List Name → List Surface → List (String × List ℕ)

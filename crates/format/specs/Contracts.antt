@@ -70,10 +70,6 @@ pub record JudgedAt {A B : Type 0} (header start : ℕ) (r : Reader A) (h : A �
 abbrev pub Judged : {A B : Type 0} → Reader A → (A → B) → List ℕ → Verdict B → Type 0
 Judged r h s answer = JudgedAt 0 8 r h s answer
 
--- the pairs of a PTAG of surfaces, which follow its type
-abbrev pub taggingPairs : (polygonCount nameCount : ℕ) → Reader Part
-taggingPairs polygonCount nameCount = many (pair polygonCount nameCount) >>= (λ ps. give (tagging (tagNumber "SURF") ps))
-
 -- the polygons that a part lists; their vertices count from the first of the latest points
 unfoldable pub polygonsListed : Part → List Polygon
 polygonsListed (pointList ps) = []

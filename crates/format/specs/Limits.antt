@@ -24,6 +24,6 @@ lwobPointLimit = 65536
 abbrev pub entryLimit : ℕ
 entryLimit = 16777216
 
--- 17: "a surface above the name count or 65,536", since a tag has two bytes
-abbrev pub surfaceLimit : ℕ
-surfaceLimit = 65536
+-- 17: "a surface above the name count or 65,536"; #111: "A part above the name count or 65,536 is 17." A tag has two bytes.
+abbrev pub tagLimit : ℕ
+tagLimit = 65536

@@ -10,15 +10,17 @@ pub record Point : Type 0 where
   pub y : ℕ
   pub z : ℕ
 
--- "kind (1 face, 2 patch), vertex count, surface number (0 none, else 1 for the first name)"; the vertices are numbers of points
+-- "kind (1 face, 2 patch), vertex count, surface number (0 none, else 1 for the first name)"; the vertices are numbers of points. #111: "A polygon gains a fourth
+-- number: part name, 0 for none, else counted from 1 in TAGS."
 pub record Polygon : Type 0 where
   pub kind : ℕ
   pub surface : ℕ
+  pub partName : ℕ
   pub vertices : List ℕ
 
 -- a polygon is made here alone
-abbrev pub polygonOf : (kind surface : ℕ) (vertices : List ℕ) → Polygon
-polygonOf kind surface vertices = record { kind = kind; surface = surface; vertices = vertices }
+abbrev pub polygonOf : (kind surface partName : ℕ) (vertices : List ℕ) → Polygon
+polygonOf kind surface partName vertices = record { kind = kind; surface = surface; partName = partName; vertices = vertices }
 
 abbrev pub FACE : ℕ
 FACE = 1
@@ -55,7 +57,7 @@ abbrev pub pointWords : Point → List ℕ
 pointWords p = p .x ∷ p .y ∷ p .z ∷ []
 
 abbrev pub polygonWords : Polygon → List ℕ
-polygonWords p = p .kind ∷ length (p .vertices) ∷ p .surface ∷ []
+polygonWords p = p .kind ∷ length (p .vertices) ∷ p .surface ∷ p .partName ∷ []
 
 abbrev pub levels : Surface → List ℕ
 levels s = s .red ∷ s .green ∷ s .blue ∷ s .diffuse ∷ s .luminosity ∷ s .specular ∷ s .reflection ∷ s .transparency ∷ []
@@ -68,7 +70,7 @@ abbrev pub pointSize : ℕ
 pointSize = 3
 
 abbrev pub polygonSize : ℕ
-polygonSize = 3
+polygonSize = 4
 
 abbrev pub recordSize : ℕ
 recordSize = 10
@@ -80,7 +82,7 @@ abbrev pub pointFrom : List ℕ → Point
 pointFrom w = record { x = word 0 w; y = word 1 w; z = word 2 w }
 
 abbrev pub polygonFrom : List ℕ → (vertices : List ℕ) → Polygon
-polygonFrom w vertices = polygonOf (word 0 w) (word 2 w) vertices
+polygonFrom w vertices = polygonOf (word 0 w) (word 2 w) (word 3 w) vertices
 
 abbrev pub surfaceFrom : List ℕ → Surface
 surfaceFrom w = record {

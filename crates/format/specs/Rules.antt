@@ -183,13 +183,16 @@ recordFor kind (some s) = recordOf kind (s .values)
 
 -- "all polygons' point numbers, joined, counted from the file's first point"
 abbrev pub from : (base : ℕ) → Polygon → Polygon
-from base p = polygonOf (p .kind) (p .surface) (map (λ v. base + v) (p .vertices))
+from base p = polygonOf (p .kind) (p .surface) (p .partName) (map (λ v. base + v) (p .vertices))
 
--- a polygon with the number that a tag of a type gives it
+-- a polygon with the number that a tag of a type gives it: its surface number, or its "part name"
 abbrev pub withTag : (type n : ℕ) → Polygon → Polygon
-withTag type n p = if type is "SURF" then polygonOf (p .kind) n (p .vertices) else p
+withTag type n p =
+    if type is "SURF" then polygonOf (p .kind) n (p .partName) (p .vertices)
+    else if type is "PART" then polygonOf (p .kind) (p .surface) n (p .vertices)
+    else p
 
--- "The last tag for a polygon stands (house)."
+-- "The last tag for a polygon stands (house)." #111: "and the last stands"
 unfoldable pub retag : (type i n : ℕ) → List Polygon → List Polygon
 retag type i n [] = []
 retag type zero n (p ∷ ps) = withTag type n p ∷ ps

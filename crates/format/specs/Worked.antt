@@ -69,7 +69,7 @@ case-l =
 mesh-l : Mesh
 mesh-l = record {
   points = record { x = 0; y = 0; z = 0 } ∷ record { x = 0x3f80_0000; y = 0; z = 0 } ∷ record { x = 0; y = 0x4000_0000; z = 0 } ∷ [];
-  polygons = polygonOf FACE 1 (0 ∷ 1 ∷ 2 ∷ []) ∷ [];
+  polygons = polygonOf FACE 1 0 (0 ∷ 1 ∷ 2 ∷ []) ∷ [];
   names = spelt "Oak" ∷ [];
   surfaces = missing ∷ [];
 }

@@ -6,7 +6,7 @@ use mathlib.Core.Bool.{Bool, true, not, _&&_, _||_}
 use lib.ListN.{length, take, drop, replicate}
 use lib.Dec.{leb, ltb, eqb}
 use Rattle.format.specs.Bytes.{if_then_else_, between, finite, every, all, sum, same}
-use Rattle.format.specs.Limits.{fileLimit, lwo2VertexLimit, entryLimit, surfaceLimit}
+use Rattle.format.specs.Limits.{fileLimit, lwo2VertexLimit, entryLimit, tagLimit}
 use Rattle.format.specs.Refusals.{noRoom, notMesh, tooLong}
 use Rattle.format.specs.Mesh.{Polygon, FACE, PATCH, Surface, Name, Mesh, missing, Tables, pointWords, levels, surfaceWords, pointSize, polygonSize, recordSize, word, pointFrom, polygonFrom, surfaceFrom}
 use Rattle.format.specs.Surfaces.{sideNumber}
@@ -46,15 +46,19 @@ meshFrom t = record {
 unfoldable pub wholeEntries : ℕ → List ℕ → Bool
 wholeEntries n ws = eqb (length ws % n) 0 && leb (length ws / n) entryLimit
 
--- "a kind, vertex count (1 to 1,023), vertex number, defined or sides number outside its range; a surface above the name count or 65,536"
+-- "a surface above the name count or 65,536"; #111: "A part above the name count or 65,536 is 17."
+abbrev pub goodTag : (nameCount : ℕ) → ℕ → Bool
+goodTag nameCount n = leb n nameCount && leb n tagLimit
+
+-- "a kind, vertex count (1 to 1,023), vertex number, defined or sides number outside its range"
 unfoldable pub goodPolygon : (pointCount nameCount : ℕ) → Polygon → Bool
 goodPolygon pointCount nameCount p =
     every
     (between FACE PATCH (p .kind)
     ∷ between 1 lwo2VertexLimit (length (p .vertices))
     ∷ all (λ v. ltb v pointCount) (p .vertices)
-    ∷ leb (p .surface) nameCount
-    ∷ leb (p .surface) surfaceLimit
+    ∷ goodTag nameCount (p .surface)
+    ∷ goodTag nameCount (p .partName)
     ∷ [])
 
 -- "a name over 255 bytes, with a zero byte, or equal to an earlier one"

@@ -5,9 +5,14 @@ pub mod tags;
 // The words of an entry in the tables of points, polygons and records.
 pub const POINT_WORDS: usize = 3;
 
-pub const POLYGON_WORDS: usize = 3;
+pub const POLYGON_WORDS: usize = 4;
 
 pub const RECORD_WORDS: usize = 10;
+
+// Which words of a polygon's entry, counted from 0, tags give it: its surface number and its part name.
+pub const SURFACE_WORD: usize = 2;
+
+pub const PART_WORD: usize = 3;
 
 // The first index that needs four bytes. A smaller one has two.
 pub const FIRST_LONG_INDEX: u32 = 65280;

@@ -24,10 +24,13 @@ pub const SURF: u32 = 0x5355_5246;
 
 pub const LAYR: u32 = 0x4C41_5952;
 
-// Types of a POLS. A PTAG of surfaces has the type SURF.
+// Types of a POLS.
 pub const FACE: u32 = 0x4641_4345;
 
 pub const PTCH: u32 = 0x5054_4348;
+
+// The type of a PTAG of parts. One of surfaces has the type SURF.
+pub const PART: u32 = 0x5041_5254;
 
 // Sub-chunks of a SURF.
 pub const COLR: u32 = 0x434F_4C52;

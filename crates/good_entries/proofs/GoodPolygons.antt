@@ -17,7 +17,7 @@ use Rattle.mesh.proofs.PolygonWalk.{PolygonWalk, own-length}
 use Rattle.good_entries.specs.Entries.{goodEntry}
 
 abbrev pub goodWords : (nameCount : ℕ) → Polygon → Bool
-goodWords names p = goodEntry names (p .kind) (length (p .vertices)) (p .surface)
+goodWords names p = goodEntry names (p .kind) (length (p .vertices)) (p .surface) (p .partName)
 
 -- ---- tests in another order
 
@@ -73,8 +73,8 @@ module _ (points names : ℕ) where
 
 pub judged : (names : ℕ) {ws vs : List ℕ} {Left : List Polygon → Type 0} {at first : ℕ} {b : Bool} {p : view.Polygon}
     → PolygonWalk ws vs Left at first → polygonSize ≤ length ws - at → p ≡ polygonAt ws at first
-    → b ≡ goodEntry names (p .kind) (p .end - first) (p .surface)
-    → b ≡ goodWords names (polygonOf (p .kind) (p .surface) (take (p .end - first) (drop first vs)))
+    → b ≡ goodEntry names (p .kind) (p .end - first) (p .surface) (p .«part_name»)
+    → b ≡ goodWords names (polygonOf (p .kind) (p .surface) (p .«part_name») (take (p .end - first) (drop first vs)))
 judged names {ws} {vs} {Left} {at} {first} {b} {p} w fits is answer =
     let count : p .end - first ≡ length (take (p .end - first) (drop first vs)) = omega (arith, own-length w fits is) in
-    answer ∙ ap (λ (n : ℕ). goodEntry names (p .kind) n (p .surface)) count
+    answer ∙ ap (λ (n : ℕ). goodEntry names (p .kind) n (p .surface) (p .«part_name»)) count

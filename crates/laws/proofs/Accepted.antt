@@ -13,19 +13,20 @@ use Rattle.format.specs.declared.Kind.{Kind}
 use Rattle.format.specs.declared.Kind.the-variants.{LWOB, LWO2}
 use Rattle.format.specs.declared.Fault.the-variants.{BadHeader}
 use Rattle.format.specs.Bytes.{if_then_else_, _is_, spelt, number, f32One, byte, between, finite, every, all, joined, same}
-use Rattle.format.specs.Limits.{surfaceLimit}
+use Rattle.format.specs.Limits.{tagLimit}
 use Rattle.format.specs.Items.{Verdict, fine, fault, Got}
 use Rattle.format.specs.Chunks.{Chunk, sizeOf, lengthOf, wellFormed, chunkOf, Chunks, link, split, chunks}
-use Rattle.format.specs.Mesh.{pointWords, Polygon, polygonOf, Name, Surface, missing, levels, Mesh}
+use Rattle.format.specs.Mesh.{pointWords, Polygon, Name, Surface, missing, levels, Mesh}
 use Rattle.format.specs.Surfaces.{Value, sideNumber, lastOf, bit, recordOf}
 use Rattle.format.specs.Bodies.{Part, SurfaceChunk, pointList, nameList, polygonList, tagging, surface, layer, skippedChunk}
 use Rattle.format.specs.Rules.{added, Before, start, after, there, count, pointsOf, namesOf, surfacesOf, standing, recordFor, from, withTag, retag, tagged, polygonsIn, meshOf, gives, rules}
 use Rattle.format.specs.Written.{goodPolygon, goodNames, goodSurface, goodMesh}
 use Rattle.format.proofs.Facts.{both, all-first, all-rest, all-append-true, all-drop, all-part, between-true}
+use Rattle.format.proofs.Tagging.{tag-cases}
 use Rattle.format.proofs.ChunkWalk.{EachPart, EachBody, walk-each, accepted}
 use Rattle.format.proofs.ChunkWalk.EachPart.{no-more, one-more}
 use Rattle.format.proofs.ChunkWalk.EachBody.{at-end, no-chunk, more}
-use Rattle.laws.proofs.GoodPolygons.{good-polygon, is-good}
+use Rattle.laws.proofs.GoodPolygons.{GoodTag, good-polygon, is-good}
 use Rattle.laws.proofs.Readers.{goodValue, goodPart, part-good}
 
 -- ---- chunks of bytes
@@ -109,6 +110,9 @@ module _ (P N : ℕ) where
       let below = ltb-true v pointCount (all-first (λ v. ltb v pointCount) v vs e) in
       both (lt-ltb (base + v) P (omega arith)) (moved-vertices base pointCount vs l (all-rest (λ v. ltb v pointCount) v vs e))
 
+  tag-moved : {nameCount n : ℕ} → nameCount ≤ N → GoodTag nameCount n → GoodTag N n
+  tag-moved few g = record { named = omega (arith, g .named); numbered = g .numbered }
+
   moved : (base pointCount nameCount : ℕ) (p : Polygon) → base + pointCount ≤ P → nameCount ≤ N → goodPolygon pointCount nameCount p ≡ true
       → goodPolygon P N (from base p) ≡ true
   moved base pointCount nameCount p l few e =
@@ -118,8 +122,8 @@ module _ (P N : ℕ) where
         kinds = g .kinds;
         count = (omega (arith, g .count .0), omega (arith, g .count .1));
         vertices = moved-vertices base pointCount (p .vertices) l (g .vertices);
-        named = omega (arith, g .named);
-        numbered = g .numbered;
+        surface = tag-moved few (g .surface);
+        part-name = tag-moved few (g .part-name);
       })
 
   all-moved : (base pointCount nameCount : ℕ) (ps : List Polygon) → base + pointCount ≤ P → nameCount ≤ N → all (goodPolygon pointCount nameCount) ps ≡ true
@@ -129,16 +133,16 @@ module _ (P N : ℕ) where
   all-moved base pointCount nameCount (p ∷ ps) l few e =
       both (moved base pointCount nameCount p l few (all-first (goodPolygon pointCount nameCount) p ps e)) (all-moved base pointCount nameCount ps l few (all-rest (goodPolygon pointCount nameCount) p ps e))
 
-  tag-good : (type n : ℕ) (p : Polygon) → n ≤ N → n ≤ surfaceLimit → goodPolygon P N p ≡ true → goodPolygon P N (withTag type n p) ≡ true
-  tag-good type n p few small e = by (type is "SURF")
-    where
-      by : (b : Bool) → goodPolygon P N (if b then polygonOf (p .kind) n (p .vertices) else p) ≡ true
-      by true =
-          let g = good-polygon P N p e in
-          is-good {p = polygonOf (p .kind) n (p .vertices)} (record { kinds = g .kinds; count = g .count; vertices = g .vertices; named = few; numbered = small })
-      by false = e
+  tag-good : (type n : ℕ) (p : Polygon) → n ≤ N → n ≤ tagLimit → goodPolygon P N p ≡ true → goodPolygon P N (withTag type n p) ≡ true
+  tag-good type n p few small e =
+      let g = good-polygon P N p e in
+      let tag : GoodTag N n = record { named = few; numbered = small } in
+      tag-cases (λ q. goodPolygon P N q ≡ true) type n p
+      (is-good (record { kinds = g .kinds; count = g .count; vertices = g .vertices; surface = tag; part-name = g .part-name }))
+      (is-good (record { kinds = g .kinds; count = g .count; vertices = g .vertices; surface = g .surface; part-name = tag }))
+      e
 
-  retag-good : (type i n : ℕ) (ps : List Polygon) → n ≤ N → n ≤ surfaceLimit → all (goodPolygon P N) ps ≡ true
+  retag-good : (type i n : ℕ) (ps : List Polygon) → n ≤ N → n ≤ tagLimit → all (goodPolygon P N) ps ≡ true
       → all (goodPolygon P N) (retag type i n ps) ≡ true
   unfolding retag all
   retag-good type i n [] few small e = refl
@@ -146,14 +150,14 @@ module _ (P N : ℕ) where
   retag-good type (suc i) n (p ∷ ps) few small e = both (all-first (goodPolygon P N) p ps e) (retag-good type i n ps few small (all-rest (goodPolygon P N) p ps e))
 
   tagged-good : (type nameCount : ℕ) (ts : List (ℕ × ℕ)) (ps : List Polygon) → nameCount ≤ N
-      → all (λ t. between 1 nameCount (t .1) && leb (t .1) surfaceLimit) ts ≡ true → all (goodPolygon P N) ps ≡ true
+      → all (λ t. between 1 nameCount (t .1) && leb (t .1) tagLimit) ts ≡ true → all (goodPolygon P N) ps ≡ true
       → all (goodPolygon P N) (tagged ps type ts) ≡ true
   tagged-good type nameCount [] ps few e g = g
   tagged-good type nameCount (t ∷ ts) ps few e g =
-      let here = and-eq-true-iff (between 1 nameCount (t .1)) (leb (t .1) surfaceLimit) .0 (all-first (λ (t : ℕ × ℕ). between 1 nameCount (t .1) && leb (t .1) surfaceLimit) t ts e) in
+      let here = and-eq-true-iff (between 1 nameCount (t .1)) (leb (t .1) tagLimit) .0 (all-first (λ (t : ℕ × ℕ). between 1 nameCount (t .1) && leb (t .1) tagLimit) t ts e) in
       let range = between-true 1 nameCount (t .1) (here .0) in
-      tagged-good type nameCount ts (retag type (t .0) (t .1) ps) few (all-rest (λ (t : ℕ × ℕ). between 1 nameCount (t .1) && leb (t .1) surfaceLimit) t ts e)
-      (retag-good type (t .0) (t .1) ps (omega arith) (leb-true (t .1) surfaceLimit (here .1)) g)
+      tagged-good type nameCount ts (retag type (t .0) (t .1) ps) few (all-rest (λ (t : ℕ × ℕ). between 1 nameCount (t .1) && leb (t .1) tagLimit) t ts e)
+      (retag-good type (t .0) (t .1) ps (omega arith) (leb-true (t .1) tagLimit (here .1)) g)
 
   -- The latest points start after `base` others and are all before `end`; what the later parts add comes behind.
   polygons-good : {kind : Kind} {b : Before} {parts : List Part} → GoodParts kind b parts → (base end : ℕ) (latest : List Polygon)

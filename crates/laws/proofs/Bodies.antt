@@ -10,21 +10,20 @@ use lib.ListN.{length, take, drop, length-append}
 use borrow.Author.Tests.{le-leb, lt-ltb, eq-eqb, ltb-true, eqb-true, eqb-false}
 use Rattle.format.specs.declared.Fault.the-variants.{VertexCount, VertexNumber, SurfaceNumber, PolygonNumber, PolygonType, BadName, SurfaceValue}
 use Rattle.format.specs.Bytes.{if_then_else_, number, spelt, finite, all, joined}
-use Rattle.format.specs.Limits.{surfaceLimit}
 use Rattle.format.specs.Items.{Reader, _>>=_, give, _or_unless_, u2, u4, uint, vx}
 use Rattle.format.specs.declared.Kind.the-variants.{LWO2}
 use Rattle.format.specs.declared.Container.the-variants.{Surf}
 use Rattle.format.specs.Chunks.{sub, fixed}
 use Rattle.format.specs.Mesh.{Point, pointWords, pointFrom, Polygon, polygonOf, FACE, PATCH, Name, Surface, levels}
 use Rattle.format.specs.Surfaces.{Value, value, sideNumber, lwo2Value, held, nested, lastOf, recordOf}
-use Rattle.format.specs.Bodies.{Part, SurfaceChunk, pointList, nameList, polygonList, tagging, surface, point, wholePoints, pointsBody, newName, name, namesAfter, namesBody, vertex, countBits, lwo2Vertices, polygon, polygonType, polygonKind, polygonsBody, pair, taggingBody, surfaceStrings, surfaceBody}
+use Rattle.format.specs.Bodies.{Part, SurfaceChunk, pointList, nameList, polygonList, tagging, surface, point, wholePoints, pointsBody, newName, name, namesAfter, namesBody, vertex, countBits, lwo2Vertices, polygon, polygonType, polygonKind, polygonsBody, pair, pairsType, taggingBody, surfaceStrings, surfaceBody}
 use Rattle.format.specs.Canonical.{bytes, vxBytes, stringBytes, pointBytes, polygonBytes, typeOf, pairsOf, pairBytes, levelBytes, valueChunks, surfaceBytes}
 use Rattle.format.specs.Written.{goodPolygon, noZero, goodNames}
 use Rattle.format.proofs.Facts.{all-first, all-rest, all-part, length-each}
 use Rattle.laws.proofs.Reading.{ReadsAs, Ends, ends, reads-give, reads-then, ends-then, reads-as, ends-as, reads-unless, Row, none, more, reads-times, ends-many, rows, rows-same}
 use Rattle.format.proofs.CanonicalLengths.{length-bytes, length-string, length-point, length-vx}
 use Rattle.laws.proofs.Items.{reads-item, reads-uint, floats, reads-floats, reads-vx, reads-string}
-use Rattle.laws.proofs.GoodPolygons.{GoodPolygon, good-polygon}
+use Rattle.laws.proofs.GoodPolygons.{GoodTag, GoodPolygon, good-polygon}
 use Rattle.laws.proofs.Chunks.{isTag, more-sub, ends-of-length}
 
 -- ---- points
@@ -88,9 +87,9 @@ ends-names ns ok = record { here = ends-as nameList (ends-names-after (length (j
 
 -- ---- polygons
 
--- a polygon as POLS has it, without its surface
+-- a polygon as POLS has it, without its surface and its part name
 abbrev pub bare : ℕ → Polygon → Polygon
-bare k p = polygonOf k 0 (p .vertices)
+bare k p = polygonOf k 0 0 (p .vertices)
 
 reads-vertex : (pointCount : ℕ) → pointCount ≤ 2 ^ 24 → (v : ℕ) → ltb v pointCount ≡ true → ReadsAs (vertex vx pointCount) (vxBytes v) v
 reads-vertex pointCount few v small = reads-unless VertexNumber (λ v. ltb v pointCount) (reads-vx v (omega (arith, ltb-true v pointCount small))) small
@@ -139,16 +138,16 @@ ends-run pointCount nameCount k few kinds ps ok =
     let row = rows polygonBytes (bare k) (goodPolygon pointCount nameCount) (reads-polygon pointCount nameCount k few) length-polygon ps ok in
     ends-then _ (reads-unless PolygonType polygonType (reads-tag (typeOf k) (t .four)) (t .known)) (rw (t .kind) (ends-as (λ ps. polygonList ps 0) (ends-many row)))
 
--- ---- a run's PTAG
+-- ---- a run's PTAGs
 
-reads-pair : (polygonCount nameCount i n : ℕ) → polygonCount ≤ 2 ^ 24 → i < polygonCount → n ≤ nameCount → n ≤ surfaceLimit → (n ≡ 0 → ⊥)
+reads-pair : (polygonCount nameCount i n : ℕ) → polygonCount ≤ 2 ^ 24 → i < polygonCount → GoodTag nameCount n → (n ≡ 0 → ⊥)
     → ReadsAs (pair polygonCount nameCount) (pairBytes (i, n)) (i, n)
 unfolding pair pairBytes
-reads-pair polygonCount nameCount i n few below named numbered some =
+reads-pair polygonCount nameCount i n few below good some =
     let t : ℕ = n - 1 in
     let back : suc t ≡ n = omega arith in
     let which = reads-unless PolygonNumber (λ p. ltb p polygonCount) (reads-vx i (omega arith)) (lt-ltb i polygonCount below) in
-    let tag = reads-unless SurfaceNumber (λ t. ltb t nameCount) (reads-uint 2 t (omega arith)) (lt-ltb t nameCount (omega arith)) in
+    let tag = reads-unless SurfaceNumber (λ t. ltb t nameCount) (reads-uint 2 t (omega (arith, good .numbered))) (lt-ltb t nameCount (omega (arith, good .named))) in
     let read : ReadsAs (pair polygonCount nameCount) (vxBytes i ++ bytes 2 t) (i, suc t) = reads-then _ which (reads-as _ tag) in
     rw back at read
 
@@ -156,32 +155,43 @@ length-pair : (t : ℕ × ℕ) → 0 < length (pairBytes t)
 unfolding pairBytes
 length-pair t = omega (arith, length-append (vxBytes (t .0)) (bytes 2 (t .1 - 1)), length-vx (t .0))
 
-row-pairs : (pointCount polygonCount nameCount i : ℕ) → polygonCount ≤ 2 ^ 24 → (ps : List Polygon) → i + length ps ≤ polygonCount
-    → all (goodPolygon pointCount nameCount) ps ≡ true → Row (pair polygonCount nameCount) (map pairBytes (pairsOf i ps)) (pairsOf i ps)
-unfolding pairsOf
-row-pairs pointCount polygonCount nameCount i few [] fits ok = none
-row-pairs pointCount polygonCount nameCount i few (p ∷ ps) fits ok =
-    go (eqb (p .surface) 0) refl (row-pairs pointCount polygonCount nameCount (suc i) few ps (omega arith) (all-rest _ p ps ok))
-  where
-    g : GoodPolygon pointCount nameCount p
-    g = good-polygon pointCount nameCount p (all-first _ p ps ok)
+-- A type whose pairs are read, and the number of a polygon that they are for: of a good polygon it can be a tag.
+pub record TagType (type : String) (number-of : Polygon → ℕ) : Type 0 where
+  pub four : length (spelt type) ≡ 4
+  pub is-read : pairsType (number (spelt type)) ≡ true
+  pub good : {pointCount nameCount : ℕ} {p : Polygon} → GoodPolygon pointCount nameCount p → GoodTag nameCount (number-of p)
 
-    go : (b : Bool) → eqb (p .surface) 0 ≡ b → Row (pair polygonCount nameCount) (map pairBytes (pairsOf (suc i) ps)) (pairsOf (suc i) ps)
-        → Row (pair polygonCount nameCount) (map pairBytes ((if b then [] else (i, p .surface) ∷ []) ++ pairsOf (suc i) ps)) ((if b then [] else (i, p .surface) ∷ []) ++ pairsOf (suc i) ps)
-    go true e later = later
-    go false e later =
-        more (reads-pair polygonCount nameCount i (p .surface) few (omega arith) (g .named) (g .numbered) (eqb-false (p .surface) 0 e)) (length-pair (i, p .surface)) later
+pub surface-type : TagType "SURF" (λ p. p .surface)
+unfolding number
+surface-type = record { four = refl; is-read = refl; good = λ g. g .surface }
 
--- a PTAG of surfaces
-abbrev pub surfaceTags : List (ℕ × ℕ) → Part
-surfaceTags ts = tagging (number (spelt "SURF")) ts
+pub part-type : TagType "PART" (λ p. p .partName)
+unfolding number
+part-type = record { four = refl; is-read = refl; good = λ g. g .part-name }
 
-pub ends-pairs : (pointCount polygonCount nameCount : ℕ) → polygonCount ≤ 2 ^ 24 → (ps : List Polygon) → length ps ≤ polygonCount
-    → all (goodPolygon pointCount nameCount) ps ≡ true
-    → Ends (taggingBody polygonCount nameCount) (spelt "SURF" ++ joined (map pairBytes (pairsOf 0 ps))) (surfaceTags (pairsOf 0 ps))
-unfolding taggingBody number
-ends-pairs pointCount polygonCount nameCount few ps fits ok =
-    ends-then _ (reads-tag "SURF" refl) (ends-as surfaceTags (ends-many (row-pairs pointCount polygonCount nameCount 0 few ps (omega arith) ok)))
+-- a PTAG of a type
+abbrev pub taggingOf : (type : String) → List (ℕ × ℕ) → Part
+taggingOf type ts = tagging (number (spelt type)) ts
+
+module _ {type : String} {number-of : Polygon → ℕ} (tag : TagType type number-of) (pointCount polygonCount nameCount : ℕ) (few : polygonCount ≤ 2 ^ 24) where
+  row-pairs : (i : ℕ) (ps : List Polygon) → i + length ps ≤ polygonCount → all (goodPolygon pointCount nameCount) ps ≡ true
+      → Row (pair polygonCount nameCount) (map pairBytes (pairsOf number-of i ps)) (pairsOf number-of i ps)
+  unfolding pairsOf
+  row-pairs i [] fits ok = none
+  row-pairs i (p ∷ ps) fits ok = go (eqb (number-of p) 0) refl (row-pairs (suc i) ps (omega arith) (all-rest _ p ps ok))
+    where
+      good : GoodTag nameCount (number-of p)
+      good = tag .good (good-polygon pointCount nameCount p (all-first _ p ps ok))
+
+      go : (b : Bool) → eqb (number-of p) 0 ≡ b → Row (pair polygonCount nameCount) (map pairBytes (pairsOf number-of (suc i) ps)) (pairsOf number-of (suc i) ps)
+          → Row (pair polygonCount nameCount) (map pairBytes ((if b then [] else (i, number-of p) ∷ []) ++ pairsOf number-of (suc i) ps)) ((if b then [] else (i, number-of p) ∷ []) ++ pairsOf number-of (suc i) ps)
+      go true e later = later
+      go false e later = more (reads-pair polygonCount nameCount i (number-of p) few (omega arith) good (eqb-false (number-of p) 0 e)) (length-pair (i, number-of p)) later
+
+  pub ends-pairs : (ps : List Polygon) → length ps ≤ polygonCount → all (goodPolygon pointCount nameCount) ps ≡ true
+      → Ends (taggingBody polygonCount nameCount) (spelt type ++ joined (map pairBytes (pairsOf number-of 0 ps))) (taggingOf type (pairsOf number-of 0 ps))
+  unfolding taggingBody
+  ends-pairs ps fits ok = ends-then _ (reads-tag type (tag .four)) (rw (tag .is-read) (ends-as (taggingOf type) (ends-many (row-pairs 0 ps (omega arith) ok))))
 
 -- ---- surfaces
 

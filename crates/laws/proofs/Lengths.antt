@@ -8,7 +8,7 @@ use native.Mathlib.Omega.{arith}
 use lib.ListN.{length, replicate, length-append}
 use Rattle.format.specs.Bytes.{spelt, joined}
 use Rattle.format.specs.Mesh.{Polygon, Name, Mesh}
-use Rattle.format.specs.Canonical.{bytes, vxBytes, stringBytes, chunkBytes, pointBytes, polygonBytes, typeOf, pairsOf, pairBytes, runs, unlessEmpty, runChunks, surfaceChunks, canonicalChunks, encoded, canonical}
+use Rattle.format.specs.Canonical.{bytes, vxBytes, stringBytes, chunkBytes, pointBytes, polygonBytes, typeOf, runs, unlessEmpty, taggingChunk, runChunks, surfaceChunks, canonicalChunks, encoded, canonical}
 use Rattle.format.specs.Contracts.{total}
 use Rattle.format.proofs.Puts.{total-append}
 use Rattle.format.proofs.Facts.{length-each}
@@ -55,7 +55,8 @@ unfolding runChunks joined
 total-run [] = omega arith
 total-run (p ∷ r) =
     let pols = unlessEmpty "POLS" (typeOf (p .kind)) polygonBytes (p ∷ r) in
-    omega (arith, total-append encoded pols (unlessEmpty "PTAG" "SURF" pairBytes (pairsOf 0 (p ∷ r))), total-unless "POLS" (typeOf (p .kind)) polygonBytes (p ∷ r), length-polygons (p ∷ r))
+    let tags = taggingChunk "SURF" (λ p. p .surface) (p ∷ r) ++ taggingChunk "PART" (λ p. p .partName) (p ∷ r) in
+    omega (arith, total-append encoded pols tags, total-unless "POLS" (typeOf (p .kind)) polygonBytes (p ∷ r), length-polygons (p ∷ r))
 
 total-runs : (rs : List (List Polygon)) → length (joined rs) + total verticesOf (joined rs) ≤ total encoded (joined (map runChunks rs))
 unfolding joined

@@ -1,5 +1,6 @@
 -- The parts of a canonical file make the mesh again, with nothing skipped and no details.
 use Prim.Native.Nat.{ℕ}
+use Prim.Native.String.{String}
 use mathlib.Core.Path.{_≡_, refl, sym, ap, _∙_}
 use mathlib.Core.List.{List, [], _∷_, _++_, map, append-assoc, append-nil}
 use mathlib.Core.Option.{Option, none, some}
@@ -20,10 +21,10 @@ use Rattle.format.specs.Written.{goodPolygon, goodNames, goodSurface, goodMesh}
 use Rattle.format.proofs.Facts.{every-at, all-first, all-rest}
 use Rattle.format.proofs.MissingColour.{undefined-missing}
 use Rattle.format.proofs.SameLists.{same-eq}
-use Rattle.laws.proofs.Bodies.{bare, surfaceTags, written, good-name, record-back}
+use Rattle.laws.proofs.Bodies.{bare, taggingOf, written, good-name, record-back}
 use Rattle.laws.proofs.Form.{told}
 use Rattle.laws.proofs.Polygons.{polygons-back}
-use Rattle.laws.proofs.Walk.{canonicalParts, unless, runParts, surfaceParts}
+use Rattle.laws.proofs.Walk.{canonicalParts, unless, surfaceTags, partTags, runParts, surfaceParts}
 
 -- ---- what parts add to the lists
 
@@ -63,15 +64,19 @@ unfolding added
 adds-points [] a = a
 adds-points (p ∷ new) a = adds-more (pointList (p ∷ new)) refl refl a
 
+adds-tags : {ps : List Part} {pts : List Point} {ns : List Name} {ss : List SurfaceChunk} (type : String) (ts : List (ℕ × ℕ)) → Adds ps pts ns ss
+    → Adds (unless (taggingOf type) ts ++ ps) pts ns ss
+unfolding added
+adds-tags type [] a = a
+adds-tags type (t ∷ ts) a = adds-more (taggingOf type (t ∷ ts)) refl refl a
+
 adds-run : {ps : List Part} {pts : List Point} {ns : List Name} {ss : List SurfaceChunk} (r : List Polygon) → Adds ps pts ns ss
     → Adds (runParts r ++ ps) pts ns ss
 unfolding runParts added
 adds-run [] a = a
-adds-run {ps} {pts} {ns} {ss} (p ∷ r) a = adds-more (polygonList (map (bare (p .kind)) (p ∷ r)) 0) refl refl (go (pairsOf 0 (p ∷ r)))
-  where
-    go : (ts : List (ℕ × ℕ)) → Adds (unless surfaceTags ts ++ ps) pts ns ss
-    go [] = a
-    go (t ∷ ts) = adds-more (surfaceTags (t ∷ ts)) refl refl a
+adds-run {ps} (p ∷ r) a =
+    adds-more (polygonList (map (bare (p .kind)) (p ∷ r)) 0) refl refl
+    (rw (append-assoc (surfaceTags (p ∷ r)) (partTags (p ∷ r)) ps) (adds-tags "SURF" (pairsOf (λ p. p .surface) 0 (p ∷ r)) (adds-tags "PART" (pairsOf (λ p. p .partName) 0 (p ∷ r)) a)))
 
 adds-runs : {ps : List Part} {pts : List Point} {ns : List Name} {ss : List SurfaceChunk} (rs : List (List Polygon)) → Adds ps pts ns ss
     → Adds (joined (map runParts rs) ++ ps) pts ns ss

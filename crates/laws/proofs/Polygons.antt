@@ -1,5 +1,6 @@
 -- The runs that a canonical file cuts the polygons into: their parts make the polygons again, with their kinds and tags.
 use Prim.Native.Nat.{ℕ, suc, _+_}
+use Prim.Native.String.{String}
 use mathlib.Core.Path.{_≡_, refl, sym, ap, _∙_}
 use mathlib.Core.List.{List, [], _∷_, _++_, map, append-assoc, append-nil, map-id}
 use mathlib.Core.Bool.{Bool, true, false}
@@ -12,11 +13,11 @@ use borrow.Author.Tests.{eqb-true, eq-eqb}
 use Rattle.format.specs.Bytes.{if_then_else_, spelt, number, all, joined, same}
 use Rattle.format.specs.Mesh.{Point, Polygon, polygonOf, Name, Surface, Mesh}
 use Rattle.format.specs.Bodies.{Part, pointList, nameList, surface}
-use Rattle.format.specs.Rules.{from, retag, tagged, polygonsIn}
+use Rattle.format.specs.Rules.{from, withTag, retag, tagged, polygonsIn}
 use Rattle.format.specs.Canonical.{pairsOf, ahead, runs}
 use Rattle.format.proofs.Facts.{all-first, all-rest}
-use Rattle.laws.proofs.Bodies.{bare, surfaceTags, written}
-use Rattle.laws.proofs.Walk.{canonicalParts, unless, runParts, surfaceParts}
+use Rattle.laws.proofs.Bodies.{bare, taggingOf, written}
+use Rattle.laws.proofs.Walk.{canonicalParts, unless, surfaceTags, partTags, runParts, surfaceParts}
 
 -- ---- runs
 
@@ -57,41 +58,54 @@ kind-runs (p ∷ ps) = kind-ahead p (runs ps) (kind-runs ps)
 
 -- ---- tags
 
-retag-at : (before : List Polygon) (p : Polygon) (later : List Polygon) (n : ℕ)
-    → retag (number (spelt "SURF")) (length before) n (before ++ p ∷ later) ≡ before ++ polygonOf (p .kind) n (p .vertices) ∷ later
-unfolding retag number
-retag-at [] p later n = refl
-retag-at (q ∷ before) p later n = ap (λ (l : List Polygon). q ∷ l) (retag-at before p later n)
+retag-at : (type n : ℕ) (before : List Polygon) (p : Polygon) (later : List Polygon)
+    → retag type (length before) n (before ++ p ∷ later) ≡ before ++ withTag type n p ∷ later
+unfolding retag
+retag-at type n [] p later = refl
+retag-at type n (q ∷ before) p later = ap (λ (l : List Polygon). q ∷ l) (retag-at type n before p later)
 
--- polygons with the tags of a PTAG of surfaces
-abbrev surfaced : List Polygon → List (ℕ × ℕ) → List Polygon
-surfaced ps ts = tagged ps (number (spelt "SURF")) ts
+-- Tags of a type give each polygon the number that it lacks: with its tag it is what it was to be, and without one it is so already.
+module _ (type : ℕ) (number-of : Polygon → ℕ) (lacks has : Polygon → Polygon) (given : (p : Polygon) → withTag type (number-of p) (lacks p) ≡ has p)
+    (no-need : (p : Polygon) → number-of p ≡ 0 → lacks p ≡ has p) where
+  -- the polygons before are done
+  tagged-after : (before ps : List Polygon) → tagged (before ++ map lacks ps) type (pairsOf number-of (length before) ps) ≡ before ++ map has ps
+  unfolding pairsOf
+  tagged-after before [] = refl
+  tagged-after before (p ∷ ps) = go (eqb (number-of p) 0) refl (tagged-after (before ++ has p ∷ []) ps)
+    where
+      long : length (before ++ has p ∷ []) ≡ suc (length before)
+      long = length-append before (has p ∷ []) ∙ omega arith
 
--- the polygons before are done
-tagged-after : (k : ℕ) (before ps : List Polygon) → all (λ q. eqb (q .kind) k) ps ≡ true
-    → surfaced (before ++ map (bare k) ps) (pairsOf (length before) ps) ≡ before ++ ps
-unfolding pairsOf
-tagged-after k before [] ok = refl
-tagged-after k before (p ∷ ps) ok = go (eqb (p .surface) 0) refl (tagged-after k (before ++ p ∷ []) ps (all-rest _ p ps ok))
-  where
-    kinds : p .kind ≡ k
-    kinds = eqb-true (p .kind) k (all-first _ p ps ok)
+      step : tagged (before ++ has p ∷ [] ++ map lacks ps) type (pairsOf number-of (length (before ++ has p ∷ [])) ps) ≡ before ++ has p ∷ [] ++ map has ps
+          → tagged (before ++ has p ∷ map lacks ps) type (pairsOf number-of (suc (length before)) ps) ≡ before ++ has p ∷ map has ps
+      step later = rw (append-snoc before (has p) (map lacks ps), append-snoc before (has p) (map has ps), long) at later
 
-    long : length (before ++ p ∷ []) ≡ suc (length before)
-    long = length-append before (p ∷ []) ∙ omega arith
+      go : (b : Bool) → eqb (number-of p) 0 ≡ b → tagged (before ++ has p ∷ [] ++ map lacks ps) type (pairsOf number-of (length (before ++ has p ∷ [])) ps) ≡ before ++ has p ∷ [] ++ map has ps
+          → tagged (before ++ lacks p ∷ map lacks ps) type ((if b then [] else (length before, number-of p) ∷ []) ++ pairsOf number-of (suc (length before)) ps) ≡ before ++ has p ∷ map has ps
+      go true e later = rw (no-need p (eqb-true (number-of p) 0 e)) (step later)
+      go false e later =
+          ap (λ (l : List Polygon). tagged l type (pairsOf number-of (suc (length before)) ps)) (retag-at type (number-of p) before (lacks p) (map lacks ps) ∙ rw (given p)) ∙ step later
 
-    whole : (n : ℕ) → n ≡ p .surface → polygonOf k n (p .vertices) ≡ p
-    whole n e = rw (← kinds, e)
+-- a polygon of a run of kind k, as it is after the tags of its surface, and then of its part name
+abbrev surfaced : ℕ → Polygon → Polygon
+surfaced k p = polygonOf k (p .surface) 0 (p .vertices)
 
-    step : surfaced (before ++ p ∷ [] ++ map (bare k) ps) (pairsOf (length (before ++ p ∷ [])) ps) ≡ before ++ p ∷ [] ++ ps
-        → surfaced (before ++ p ∷ map (bare k) ps) (pairsOf (suc (length before)) ps) ≡ before ++ p ∷ ps
-    step later = rw (append-snoc before p (map (bare k) ps), append-snoc before p ps, long) at later
+abbrev restored : ℕ → Polygon → Polygon
+restored k p = polygonOf k (p .surface) (p .partName) (p .vertices)
 
-    go : (b : Bool) → eqb (p .surface) 0 ≡ b → surfaced (before ++ p ∷ [] ++ map (bare k) ps) (pairsOf (length (before ++ p ∷ [])) ps) ≡ before ++ p ∷ [] ++ ps
-        → surfaced (before ++ bare k p ∷ map (bare k) ps) ((if b then [] else (length before, p .surface) ∷ []) ++ pairsOf (suc (length before)) ps) ≡ before ++ p ∷ ps
-    go true e later = rw (whole 0 (sym (eqb-true (p .surface) 0 e))) (step later)
-    go false e later =
-        ap (λ (l : List Polygon). surfaced l (pairsOf (suc (length before)) ps)) (retag-at before (bare k p) (map (bare k) ps) (p .surface)) ∙ rw (whole (p .surface) refl) (step later)
+with-surfaces : (k : ℕ) (ps : List Polygon) → tagged (map (bare k) ps) (number (spelt "SURF")) (pairsOf (λ p. p .surface) 0 ps) ≡ map (surfaced k) ps
+unfolding number
+with-surfaces k ps = tagged-after (number (spelt "SURF")) (λ p. p .surface) (bare k) (surfaced k) (λ p. refl) (λ p e. rw e) [] ps
+
+with-parts : (k : ℕ) (ps : List Polygon) → tagged (map (surfaced k) ps) (number (spelt "PART")) (pairsOf (λ p. p .partName) 0 ps) ≡ map (restored k) ps
+unfolding number
+with-parts k ps = tagged-after (number (spelt "PART")) (λ p. p .partName) (surfaced k) (restored k) (λ p. refl) (λ p e. rw e) [] ps
+
+of-kind : (k : ℕ) (ps : List Polygon) → all (λ q. eqb (q .kind) k) ps ≡ true → map (restored k) ps ≡ ps
+of-kind k [] ok = refl
+of-kind k (p ∷ ps) ok =
+    let here : restored k p ≡ p = rw (← eqb-true (p .kind) k (all-first _ p ps ok)) in
+    rw (here, of-kind k ps (all-rest _ p ps ok))
 
 same-vertices : (vs : List ℕ) → map (λ v. 0 + v) vs ≡ vs
 same-vertices vs = simp zero-add (map-id vs)
@@ -104,20 +118,19 @@ from-zero (p ∷ ps) = rw (same-vertices (p .vertices), from-zero ps)
 run-parts : (end : ℕ) (latest : List Polygon) (p : Polygon) (r : List Polygon) (rest : List Part) → oneKind (p ∷ r) ≡ true
     → polygonsIn 0 end latest (runParts (p ∷ r) ++ rest) ≡ latest ++ polygonsIn 0 end (p ∷ r) rest
 unfolding runParts polygonsIn oneKind
-run-parts end latest p r rest ok = ap (λ (l : List Polygon). latest ++ l) (go (pairsOf 0 (p ∷ r)) ∙ ap (λ (l : List Polygon). polygonsIn 0 end l rest) now)
+run-parts end latest p r rest ok =
+    ap (λ (l : List Polygon). latest ++ l)
+    (rw (append-assoc (surfaceTags (p ∷ r)) (partTags (p ∷ r)) rest, from-zero (map (bare (p .kind)) (p ∷ r)))
+    (tags "SURF" (pairsOf (λ p. p .surface) 0 (p ∷ r)) (map (bare (p .kind)) (p ∷ r)) (partTags (p ∷ r) ++ rest)
+    ∙ rw (with-surfaces (p .kind) (p ∷ r)) (tags "PART" (pairsOf (λ p. p .partName) 0 (p ∷ r)) (map (surfaced (p .kind)) (p ∷ r)) rest ∙ rw (with-parts (p .kind) (p ∷ r), of-kind (p .kind) (p ∷ r) kinds))))
   where
-    bared : List Polygon
-    bared = map (from 0) (map (bare (p .kind)) (p ∷ r))
-
     kinds : all (λ q. eqb (q .kind) (p .kind)) (p ∷ r) ≡ true
     kinds = unfold all in rw (eq-eqb (p .kind) (p .kind) refl) ok
 
-    now : surfaced bared (pairsOf 0 (p ∷ r)) ≡ p ∷ r
-    now = ap (λ (l : List Polygon). surfaced l (pairsOf 0 (p ∷ r))) (from-zero (map (bare (p .kind)) (p ∷ r))) ∙ tagged-after (p .kind) [] (p ∷ r) kinds
-
-    go : (ts : List (ℕ × ℕ)) → polygonsIn 0 end bared (unless surfaceTags ts ++ rest) ≡ polygonsIn 0 end (surfaced bared ts) rest
-    go [] = refl
-    go (t ∷ ts) = refl
+    tags : (type : String) (ts : List (ℕ × ℕ)) (now : List Polygon) (rest : List Part)
+        → polygonsIn 0 end now (unless (taggingOf type) ts ++ rest) ≡ polygonsIn 0 end (tagged now (number (spelt type)) ts) rest
+    tags type [] now rest = refl
+    tags type (t ∷ ts) now rest = refl
 
 surface-parts : (base end : ℕ) (latest : List Polygon) (ns : List Name) (ss : List Surface) → polygonsIn base end latest (surfaceParts ns ss) ≡ latest
 unfolding polygonsIn surfaceParts

@@ -16,13 +16,13 @@ use Rattle.format.specs.declared.Container.the-variants.{Surf, Blok, Attributes
 use Rattle.format.specs.declared.Fault.{Fault}
 use Rattle.format.specs.declared.Fault.the-variants.{BadHeader, WrongLength, ItemCut, StringOpen, SurfaceValue}
 use Rattle.format.specs.Bytes.{if_then_else_, _is_, byte, between, number, signed, absolute, negative, finite, over255, all, empty, joined}
-use Rattle.format.specs.Limits.{surfaceLimit, lwo2VertexLimit, lwobVertexLimit}
+use Rattle.format.specs.Limits.{tagLimit, lwo2VertexLimit, lwobVertexLimit}
 use Rattle.format.specs.Refusals.{numberOf, ofChunk}
 use Rattle.format.specs.Items.{Verdict, fine, fault, Got, Reader, _>>=_, _andThen_, give, _or_unless_, _followedBy_, whole, times, upTo, many, item, uint, u2, i2, float, long, longForm, vx, string, toZero, stringSize}
 use Rattle.format.specs.Chunks.{Chunk, headerOf, ofLength, sizeOf, lengthOf, wellFormed, chunkOf, sub, unjudged}
 use Rattle.format.specs.Mesh.{Point, pointWords, Polygon, FACE, PATCH, Name}
 use Rattle.format.specs.Surfaces.{Value, value, levelTag, floatLevel, lwobValue, lwo2Value, sideNumber, attribute, blockType, blockHeader, block, held, nested, surfaceDepth}
-use Rattle.format.specs.Bodies.{Part, pointList, nameList, polygonList, tagging, surface, layer, skippedChunk, point, pointsBody, layerBody, newName, name, namesAfter, namesBody, lwobVertices, inNameList, detail, details, detailsAfter, face, facesBody, patch, patchesBody, countBits, lwo2Vertices, polygon, polygonKind, polygonsBody, pair, taggingBody, surfaceStrings, surfaceBody}
+use Rattle.format.specs.Bodies.{Part, pointList, nameList, polygonList, tagging, surface, layer, skippedChunk, point, pointsBody, layerBody, newName, name, namesAfter, namesBody, lwobVertices, inNameList, detail, details, detailsAfter, face, facesBody, patch, patchesBody, countBits, lwo2Vertices, polygon, polygonKind, polygonsBody, pair, pairsType, taggingBody, surfaceStrings, surfaceBody}
 use Rattle.format.specs.Rules.{Before, there, count, when_read_, judge}
 use Rattle.format.specs.Written.{goodPolygon, noZero, goodNames}
 use Rattle.format.proofs.Facts.{impossible, both, every-at, all-first, all-rest, all-append-true, all-drop, all-part, between-true}
@@ -32,7 +32,7 @@ use Rattle.laws.specs.FaultStarts.OneItem.{unsigned, signed as signed-it
 use Rattle.laws.specs.FaultStarts.FaultStarts.{item-cut, string-open, not-allowed, bad-header, left-over, wrong-length, empty-block, other-first, first, second, asked, index, entry, entries, next-name, names, of-length, in-sub-chunk, in-block, first-sub, later-sub}
 use Rattle.laws.specs.FaultStarts.BodyFaultStarts.{out-of-order, left-over as bytes-over, in-body}
 use Rattle.laws.proofs.Numbers.{digits}
-use Rattle.laws.proofs.GoodPolygons.{is-good as polygon-is-good}
+use Rattle.laws.proofs.GoodPolygons.{GoodTag, is-good as polygon-is-good}
 use Rattle.format.proofs.Levels.{colour-finite, level-finite}
 
 -- ---- what is obeyed
@@ -398,7 +398,7 @@ abbrev pub goodPart : Kind → Before → Part → Bool
 goodPart kind b (pointList ps) = all (λ p. all finite (pointWords p)) ps
 goodPart kind b (nameList ns) = not (there (b .names)) && goodNames [] ns
 goodPart kind b (polygonList ps n) = all (goodPolygon (count (b .points)) (count (b .names))) ps
-goodPart kind b (tagging t ts) = all (λ t. between 1 (count (b .names)) (t .1) && leb (t .1) surfaceLimit) ts
+goodPart kind b (tagging t ts) = all (λ t. between 1 (count (b .names)) (t .1) && leb (t .1) tagLimit) ts
 goodPart kind b (surface s) = all (goodValue kind) (s .values)
 goodPart kind b layer = true
 goodPart kind b skippedChunk = true
@@ -451,14 +451,18 @@ counted limit pointCount n vs range e =
     let so = and-eq-true-iff (eqb (length vs) n) (all (λ v. ltb v pointCount) vs) .0 e in
     both (ap (between 1 limit) (eqb-true (length vs) n (so .0)) ∙ range) (so .1)
 
--- with vertices that one may have, a kind and a surface number
+-- none
+no-tag : {nameCount : ℕ} → GoodTag nameCount 0
+no-tag = record { named = omega arith; numbered = omega arith }
+
+-- with vertices that one may have, a kind, a surface number and a part name
 polygon-good : (limit pointCount nameCount : ℕ) (p : Polygon) → limit ≤ lwo2VertexLimit → goodVertices limit pointCount (p .vertices) ≡ true
-    → between FACE PATCH (p .kind) ≡ true → p .surface ≤ nameCount → p .surface ≤ surfaceLimit
+    → between FACE PATCH (p .kind) ≡ true → GoodTag nameCount (p .surface) → GoodTag nameCount (p .partName)
     → goodPolygon pointCount nameCount p ≡ true
-polygon-good limit pointCount nameCount p l vs kind few small =
+polygon-good limit pointCount nameCount p l vs kind surface-good part-good =
     let so = and-eq-true-iff (between 1 limit (length (p .vertices))) (all (λ v. ltb v pointCount) (p .vertices)) .0 vs in
     let range = between-true 1 limit (length (p .vertices)) (so .0) in
-    polygon-is-good (record { kinds = between-true FACE PATCH (p .kind) kind; count = (range .0, omega arith); vertices = so .1; named = few; numbered = small })
+    polygon-is-good (record { kinds = between-true FACE PATCH (p .kind) kind; count = (range .0, omega arith); vertices = so .1; surface = surface-good; part-name = part-good })
 
 all-map : {A C : Type 0} (p : C → Bool) (f : A → C) (xs : List A) → all (λ x. p (f x)) xs ≡ true → all p (map f xs) ≡ true
 unfolding all
@@ -467,11 +471,12 @@ all-map p f (x ∷ xs) e = let so = and-eq-true-iff (p (f x)) (all (λ x. p (f x
 
 -- a surface number that names one of the names
 named : (pointCount nameCount : ℕ) (z : ℤ) (p : Polygon) → goodVertices lwobVertexLimit pointCount (p .vertices) ≡ true → between FACE PATCH (p .kind) ≡ true
-    → p .surface ≡ absolute z → narrow z ≡ true → inNameList nameCount z ≡ true
+    → p .surface ≡ absolute z → p .partName ≡ 0 → narrow z ≡ true → inNameList nameCount z ≡ true
     → goodPolygon pointCount nameCount p ≡ true
-named pointCount nameCount z p vs kind same few l =
+named pointCount nameCount z p vs kind same none few l =
     let range = between-true 1 nameCount (absolute z) l in
-    polygon-good lwobVertexLimit pointCount nameCount p (omega arith) vs kind (omega arith) (omega (arith, leb-true (absolute z) 32768 few))
+    let tag : GoodTag nameCount (p .surface) = record { named = omega arith; numbered = omega (arith, leb-true (absolute z) 32768 few) } in
+    polygon-good lwobVertexLimit pointCount nameCount p (omega arith) vs kind tag (rw none no-tag)
 
 kind-good : (t : ℕ) → between FACE PATCH (polygonKind t) ≡ true
 kind-good t = by (t is "FACE")
@@ -502,7 +507,7 @@ module _ {B : Type 0} {most : ℕ} (pointCount nameCount : ℕ) where
       (obeys-many (obeys-then {good = λ (f : Polygon × ℕ). goodPolygon pointCount nameCount (f .0)} _ obeys-lwob-vertices
       (λ vs hvs. obeys-then _ (obeys-unless _ (inNameList nameCount) refl signed-item obeys-i2)
       (λ z hz. obeys-then _ (obeys-details z)
-      (λ n hn. obeys-give (λ h. let so = and-eq-true-iff (narrow z) (inNameList nameCount z) .0 (hz h) in named pointCount nameCount z _ (hvs h) refl refl (so .0) (so .1)))))))
+      (λ n hn. obeys-give (λ h. let so = and-eq-true-iff (narrow z) (inNameList nameCount z) .0 (hz h) in named pointCount nameCount z _ (hvs h) refl refl refl (so .0) (so .1)))))))
       (λ fs has. obeys-give (λ h. rw (is-points, is-names) (all-map (goodPolygon pointCount nameCount) (λ (f : Polygon × ℕ). f .0) fs (has h))))
 
   obeys-patches : (kind : Kind) (b : Before) → count (b .points) ≡ pointCount → count (b .names) ≡ nameCount
@@ -513,7 +518,7 @@ module _ {B : Type 0} {most : ℕ} (pointCount nameCount : ℕ) where
       (obeys-many (obeys-then {good = goodPolygon pointCount nameCount} _ obeys-lwob-vertices
       (λ vs hvs. obeys-then _ (obeys-unless _ (λ z. not (negative z) && inNameList nameCount z) refl signed-item obeys-i2)
       (λ z hz. obeys-give
-      (λ h. let so = and-eq-true-iff (narrow z) (not (negative z) && inNameList nameCount z) .0 (hz h) in let two = and-eq-true-iff (not (negative z)) (inNameList nameCount z) .0 (so .1) in named pointCount nameCount z _ (hvs h) refl refl (so .0) (two .1))))))
+      (λ h. let so = and-eq-true-iff (narrow z) (not (negative z) && inNameList nameCount z) .0 (hz h) in let two = and-eq-true-iff (not (negative z)) (inNameList nameCount z) .0 (so .1) in named pointCount nameCount z _ (hvs h) refl refl refl (so .0) (two .1))))))
       (λ ps has. obeys-give (λ h. rw (is-points, is-names) (has h)))
 
   obeys-lwo2-vertices : Obeys B most (goodVertices lwo2VertexLimit pointCount) (lwo2Vertices pointCount)
@@ -529,19 +534,19 @@ module _ {B : Type 0} {most : ℕ} (pointCount nameCount : ℕ) where
       obeys-then _ (obeys-unless _ _ refl (unsigned 4) (obeys-uint 4))
       (λ t ht. obeys-then _
       (obeys-many (obeys-then {good = goodPolygon pointCount (count (b .names))} _ obeys-lwo2-vertices
-      (λ vs hvs. obeys-give (λ h. polygon-good lwo2VertexLimit pointCount (count (b .names)) _ (omega arith) (hvs h) (kind-good t) (omega arith) (omega arith)))))
+      (λ vs hvs. obeys-give (λ h. polygon-good lwo2VertexLimit pointCount (count (b .names)) _ (omega arith) (hvs h) (kind-good t) no-tag no-tag))))
       (λ ps has. obeys-give (λ h. rw is-points (has h))))
 
   obeys-tagging : (kind : Kind) (b : Before) → count (b .names) ≡ nameCount → Obeys B most (goodPart kind b) (taggingBody pointCount nameCount)
   unfolding taggingBody pair numberOf all
   obeys-tagging kind b is-names =
       obeys-then _ (obeys-uint 4)
-      (λ t ht. obeys-then {has = all (λ (u : ℕ × ℕ). between 1 nameCount (u .1) && leb (u .1) surfaceLimit)} _
-      (obeys-if (t is "SURF")
+      (λ t ht. obeys-then {has = all (λ (u : ℕ × ℕ). between 1 nameCount (u .1) && leb (u .1) tagLimit)} _
+      (obeys-if (pairsType t)
       (λ e. obeys-many (obeys-then _ (obeys-unless _ _ refl index-item obeys-vx)
       (λ p hp. obeys-then _ (obeys-unless _ (λ u. ltb u nameCount) refl (unsigned 2) obeys-u2)
       (λ u hu. obeys-give
-      (λ h. let so = and-eq-true-iff (ltb u 65536) (ltb u nameCount) .0 (hu h) in both (both (le-leb 1 (suc u) (omega arith)) (le-leb (suc u) nameCount (omega (arith, ltb-true u nameCount (so .1))))) (le-leb (suc u) surfaceLimit (omega (arith, ltb-true u 65536 (so .0)))))))))
+      (λ h. let so = and-eq-true-iff (ltb u 65536) (ltb u nameCount) .0 (hu h) in both (both (le-leb 1 (suc u) (omega arith)) (le-leb (suc u) nameCount (omega (arith, ltb-true u nameCount (so .1))))) (le-leb (suc u) tagLimit (omega (arith, ltb-true u 65536 (so .0)))))))))
       (λ e. obeys-unjudged [] (λ h. refl)))
       (λ ts has. obeys-give (λ h. rw is-names (has h))))
 

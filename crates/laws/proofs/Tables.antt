@@ -65,22 +65,30 @@ entries-back : {A : Type 0} (n : ℕ) (words : A → List ℕ) (from : List ℕ 
     → (ws : List ℕ) → wholeEntries n ws ≡ true → joined (map words (map from (entries n ws))) ≡ ws
 entries-back n words from back ws ok = let w = whole n ws ok in ap joined (even-map n words from back (w .even)) ∙ w .back
 
+-- an entry is its words, one by one
+each-word : (n : ℕ) (e : List ℕ) → length e ≡ n → elements 0 n e ≡ e
+each-word n e long = elements-are 0 n e (omega arith) ∙ take-all n e (omega arith)
+
 point-words : (e : List ℕ) → length e ≡ pointSize → pointWords (pointFrom e) ≡ e
 unfolding elements
-point-words e long = elements-are 0 pointSize e (omega arith) ∙ take-all pointSize e (omega arith)
+point-words e long = each-word pointSize e long
 
 surface-words : (e : List ℕ) → length e ≡ recordSize → surfaceWords (surfaceFrom e) ≡ e
 unfolding elements
-surface-words e long = elements-are 0 recordSize e (omega arith) ∙ take-all recordSize e (omega arith)
+surface-words e long = each-word recordSize e long
 
 -- ---- polygons
+
+entry-words : (e : List ℕ) → length e ≡ polygonSize → word 0 e ∷ word 1 e ∷ word 2 e ∷ word 3 e ∷ [] ≡ e
+unfolding elements
+entry-words e long = each-word polygonSize e long
 
 polygon-words : {es : List (List ℕ)} → Even polygonSize es → (vs : List ℕ) → sum (map (word 1) es) ≡ length vs
     → map polygonWords (polygonsFrom es (pieces (map (word 1) es) vs)) ≡ es
 unfolding polygonsFrom pieces sum
 polygon-words no-more vs agree = refl
 polygon-words (one-more {e = e} {es = es} long even) vs agree =
-    rw (length-take-le (word 1 e) vs (omega arith), point-words e long, polygon-words even (drop (word 1 e) vs) (omega (arith, length-drop (word 1 e) vs)))
+    rw (length-take-le (word 1 e) vs (omega arith), entry-words e long, polygon-words even (drop (word 1 e) vs) (omega (arith, length-drop (word 1 e) vs)))
 
 polygon-vertices : (es vs : List (List ℕ)) → length es ≡ length vs → map (λ p. p .vertices) (polygonsFrom es vs) ≡ vs
 unfolding polygonsFrom

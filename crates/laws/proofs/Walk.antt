@@ -18,7 +18,7 @@ use Rattle.format.specs.Mesh.{Point, Polygon, Name, Surface, Mesh}
 use Rattle.format.specs.Bodies.{Part, pointList, nameList, polygonList, surface}
 use Rattle.format.specs.Rules.{Before, start, after, count, when_read_, judge, located}
 use Rattle.format.specs.Contracts.{walkParts}
-use Rattle.format.specs.Canonical.{stringBytes, pointBytes, polygonBytes, typeOf, pairsOf, pairBytes, surfaceBytes, runs, unlessEmpty, runChunks, surfaceChunks, encoded}
+use Rattle.format.specs.Canonical.{stringBytes, pointBytes, polygonBytes, typeOf, pairsOf, pairBytes, surfaceBytes, runs, unlessEmpty, taggingChunk, runChunks, surfaceChunks, encoded}
 use Rattle.format.specs.Written.{goodPolygon, goodNames, goodSurface}
 use Rattle.format.proofs.Facts.{every-at, all-first, all-rest, all-append}
 use Rattle.format.proofs.ChunkWalk.{parts-finished, parts-chunk}
@@ -26,7 +26,7 @@ use Rattle.laws.proofs.Reading.{wholly, Row, none, more}
 use Rattle.laws.proofs.Chunks.{isTag, shorter, reads-chunk}
 use Rattle.laws.proofs.Tiles.{inFront}
 use Rattle.laws.proofs.GoodPolygons.{good-polygon}
-use Rattle.laws.proofs.Bodies.{goodPoint, ends-points, good-name, ends-names, bare, ends-run, surfaceTags, ends-pairs, written, ends-surface}
+use Rattle.laws.proofs.Bodies.{goodPoint, ends-points, good-name, ends-names, bare, ends-run, TagType, surface-type, part-type, taggingOf, ends-pairs, written, ends-surface}
 
 -- ---- chunks judged one after the other
 
@@ -84,11 +84,12 @@ unfolding judge when_read_ number
 judged-run pointCount nameCount gs ns few p r ok =
     wholly 0 8 (ends-run pointCount nameCount (p .kind) few (good-polygon pointCount nameCount p (all-first _ p r ok) .kinds) (p ∷ r) ok)
 
-judged-pairs : (pointCount polygonCount : ℕ) (pts ns : Option ℕ) → polygonCount ≤ 2 ^ 24 → (ps : List Polygon) → length ps ≤ polygonCount
+judged-pairs : {type : String} {number-of : Polygon → ℕ} → TagType type number-of
+    → (pointCount polygonCount : ℕ) (pts ns : Option ℕ) → polygonCount ≤ 2 ^ 24 → (ps : List Polygon) → length ps ≤ polygonCount
     → all (goodPolygon pointCount (count ns)) ps ≡ true
-    → judge LWO2 (state pts (some polygonCount) ns) (number (spelt "PTAG")) (spelt "SURF" ++ joined (map pairBytes (pairsOf 0 ps))) ≡ fine (surfaceTags (pairsOf 0 ps))
+    → judge LWO2 (state pts (some polygonCount) ns) (number (spelt "PTAG")) (spelt type ++ joined (map pairBytes (pairsOf number-of 0 ps))) ≡ fine (taggingOf type (pairsOf number-of 0 ps))
 unfolding judge when_read_ number
-judged-pairs pointCount polygonCount pts ns few ps fits ok = wholly 0 8 (ends-pairs pointCount polygonCount (count ns) few ps fits ok)
+judged-pairs tag pointCount polygonCount pts ns few ps fits ok = wholly 0 8 (ends-pairs tag pointCount polygonCount (count ns) few ps fits ok)
 
 judged-surface : (b : Before) (earlier : List Name) (n : Name) (ns : List Name) (s : Surface) → goodNames earlier (n ∷ ns) ≡ true → goodSurface s ≡ true
     → judge LWO2 b (number (spelt "SURF")) (surfaceBytes n s) ≡ fine (surface (written n s))
@@ -131,19 +132,27 @@ pub on-points : {cs : List (String × List ℕ)} {ps : List Part} (nms : Option 
 unfolding all after
 on-points nms pts ok later = on-unless "PNTS" "" pointBytes pointList (λ pts. state (counted pts) none nms) pts refl (λ p ps. refl) (judged-points _ pts ok) later
 
-on-pairs : {cs : List (String × List ℕ)} {ps : List Part} (pts : Option ℕ) (pointCount polygonCount : ℕ) (ns : List Name) (r : List Polygon)
+on-pairs : {type : String} {number-of : Polygon → ℕ} → TagType type number-of
+    → {cs : List (String × List ℕ)} {ps : List Part} (pts : Option ℕ) (pointCount polygonCount : ℕ) (ns : List Name) (r : List Polygon)
     → length r ≤ polygonCount → polygonCount ≤ 2 ^ 24 → all (goodPolygon pointCount (length ns)) r ≡ true
     → WalkedAs (state pts (some polygonCount) (counted ns)) cs ps
-    → WalkedAs (state pts (some polygonCount) (counted ns)) (unlessEmpty "PTAG" "SURF" pairBytes (pairsOf 0 r) ++ cs) (unless surfaceTags (pairsOf 0 r) ++ ps)
+    → WalkedAs (state pts (some polygonCount) (counted ns)) (taggingChunk type number-of r ++ cs) (unless (taggingOf type) (pairsOf number-of 0 r) ++ ps)
 unfolding all after
-on-pairs pts pointCount polygonCount ns r fits few ok later =
-    on-unless "PTAG" "SURF" pairBytes surfaceTags (λ ts. state pts (some polygonCount) (counted ns)) (pairsOf 0 r) refl (λ t ts. refl)
-    (judged-pairs pointCount polygonCount pts (counted ns) few r fits (rw (count-counted ns) ok)) later
+on-pairs {type} {number-of} tag pts pointCount polygonCount ns r fits few ok later =
+    on-unless "PTAG" type pairBytes (taggingOf type) (λ ts. state pts (some polygonCount) (counted ns)) (pairsOf number-of 0 r) refl (λ t ts. refl)
+    (judged-pairs tag pointCount polygonCount pts (counted ns) few r fits (rw (count-counted ns) ok)) later
+
+-- what a run's polygons are tagged by: their surfaces, and then their part names
+abbrev pub surfaceTags : List Polygon → List Part
+surfaceTags r = unless (taggingOf "SURF") (pairsOf (λ p. p .surface) 0 r)
+
+abbrev pub partTags : List Polygon → List Part
+partTags r = unless (taggingOf "PART") (pairsOf (λ p. p .partName) 0 r)
 
 -- what a run contributes
 unfoldable pub runParts : List Polygon → List Part
 runParts [] = []
-runParts (p ∷ r) = polygonList (map (bare (p .kind)) (p ∷ r)) 0 ∷ unless surfaceTags (pairsOf 0 (p ∷ r))
+runParts (p ∷ r) = polygonList (map (bare (p .kind)) (p ∷ r)) 0 ∷ (surfaceTags (p ∷ r) ++ partTags (p ∷ r))
 
 some-point : (pointCount nameCount : ℕ) (p : Polygon) → goodPolygon pointCount nameCount p ≡ true → 0 < pointCount
 some-point pointCount nameCount p ok = let g = good-polygon pointCount nameCount p ok in go (p .vertices) (g .count .0) (g .vertices)
@@ -159,10 +168,14 @@ on-run : {cs : List (String × List ℕ)} {ps : List Part} (gs : Option ℕ) (pt
 unfolding runChunks runParts unlessEmpty after all
 on-run gs pts ns few [] short ok later = later gs
 on-run gs [] ns few (p ∷ r) short ok later = absurd (omega (arith, some-point 0 (length ns) p (all-first (goodPolygon 0 (length ns)) p r ok)))
-on-run gs (pt ∷ pts) ns few (p ∷ r) short ok later =
+on-run {cs} {ps} gs (pt ∷ pts) ns few (p ∷ r) short ok later =
     let n : ℕ = suc (length pts) in
     let same : length (map (bare (p .kind)) (p ∷ r)) ≡ suc (length r) = length-map (p ∷ r) (bare (p .kind)) in
-    on refl (judged-run n (length ns) gs (counted ns) few p r ok) (on-pairs (some n) n _ ns (p ∷ r) (omega arith) (omega arith) ok (later _))
+    let surfaces = taggingChunk "SURF" (λ p. p .surface) (p ∷ r) in
+    let parts = taggingChunk "PART" (λ p. p .partName) (p ∷ r) in
+    on {cs = (surfaces ++ parts) ++ cs} {ps = (surfaceTags (p ∷ r) ++ partTags (p ∷ r)) ++ ps} refl (judged-run n (length ns) gs (counted ns) few p r ok)
+    (rw (append-assoc surfaces parts cs, append-assoc (surfaceTags (p ∷ r)) (partTags (p ∷ r)) ps)
+    (on-pairs surface-type (some n) n _ ns (p ∷ r) (omega arith) (omega arith) ok (on-pairs part-type (some n) n _ ns (p ∷ r) (omega arith) (omega arith) ok (later _))))
 
 pub on-runs : {cs : List (String × List ℕ)} {ps : List Part} (gs : Option ℕ) (pts : List Point) (ns : List Name) → length pts ≤ 2 ^ 24
     → (rs : List (List Polygon))

@@ -22,7 +22,7 @@ lines texts = joined (map (λ text. spelt text ++ lineEnd) texts)
 
 table : List (List ℕ × List String)
 table =
-    (printed case-l, "accepted" ∷ "points 3" ∷ "polygons 1" ∷ "vertices 3" ∷ "names 1" ∷ "name-bytes 3" ∷ "skipped 0" ∷ "details 0" ∷ "polygon 0 kind 1 surface 1 vertices 0 1 2" ∷ [])
+    (printed case-l, "accepted" ∷ "points 3" ∷ "polygons 1" ∷ "vertices 3" ∷ "names 1" ∷ "name-bytes 3" ∷ "skipped 0" ∷ "details 0" ∷ "polygon 0 kind 1 surface 1 part 0 vertices 0 1 2" ∷ [])
     ∷ (printed (hex "464f524d0000001a4c574f32504e54530000000d0000000000000000000000000000"), "refused 6 at 12" ∷ [])
     ∷ (printed [], "refused 2 at 0" ∷ [])
     ∷ (decimal 65280 ++ lineEnd, "65280" ∷ [])

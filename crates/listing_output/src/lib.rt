@@ -22,8 +22,8 @@ pub const NAME_BYTES: usize = 8192;
 
 pub const RECORDS: usize = 256 * RECORD_WORDS;
 
-// 214 bytes for the counts, 93 for each polygon and 21 for each vertex: no listing is longer.
-pub const OUTPUT: usize = 725206;
+// 214 bytes for the counts, 119 for each polygon and 21 for each vertex: no listing is longer.
+pub const OUTPUT: usize = 831702;
 
 // What the program prints for its input, of which as much was read as there was room for. The tables are lent for the reading.
 pub fn put_output(

@@ -20,7 +20,7 @@ pub record PrintedPolygons (ws vs t : List ℕ) (at : ℕ) (t′ : List ℕ) (ne
   pub lent : LinesLent t at ws vs
   pub numbered : entry ≡ number * polygonSize
   pub walk :
-      PolygonWalk ws vs (λ ps. PrintedSoFar (polygonLines 0 (meshPolygons ws vs)) (polygonLines number ps) t at t′ next (93 * number + 21 * first)) entry first
+      PolygonWalk ws vs (λ ps. PrintedSoFar (polygonLines 0 (meshPolygons ws vs)) (polygonLines number ps) t at t′ next (119 * number + 21 * first)) entry first
 
 pub begin : {ws vs t : List ℕ} {at : ℕ} → LinesLent t at ws vs → PrintedPolygons ws vs t at t at 0 0 0
 begin lent = record { lent = lent; numbered = omega arith; walk = polygons.begin (lent .agree) text.begin }
@@ -44,9 +44,9 @@ module _ {ws vs t t′ : List ℕ} {at next number entry first : ℕ} (w : Print
     later = meshPolygons (drop (entry + polygonSize) ws) (drop (p .end) vs)
 
     abbrev line : List ℕ
-    line = lineOf number (p .kind) (p .surface) own
+    line = lineOf number (p .kind) (p .surface) (p .«part_name») own
 
-    next-line : polygonLines number (polygonOf (p .kind) (p .surface) own ∷ later) ≡ line ++ polygonLines (number + 1) later
+    next-line : polygonLines number (polygonOf (p .kind) (p .surface) (p .«part_name») own ∷ later) ≡ line ++ polygonLines (number + 1) later
     unfolding polygonLines
     next-line = rw (add-one number)
 

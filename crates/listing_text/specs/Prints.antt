@@ -26,17 +26,17 @@ countSize label = length label + 21
 
 -- what stands before the vertices of a polygon; the vertices; and the whole line
 abbrev pub headingSize : ℕ
-headingSize = 92
+headingSize = 118
 
 abbrev pub verticesSize : (vertices : List ℕ) → ℕ
 verticesSize vertices = 21 * length vertices
 
 abbrev pub lineSize : (vertices : List ℕ) → ℕ
-lineSize vertices = 93 + verticesSize vertices
+lineSize vertices = 119 + verticesSize vertices
 
 -- the lines of all polygons
 abbrev pub linesSize : (polygons vertices : List ℕ) → ℕ
-linesSize polygons vertices = 93 * (length polygons / polygonSize) + verticesSize vertices
+linesSize polygons vertices = 119 * (length polygons / polygonSize) + verticesSize vertices
 
 -- ---- the lines of polygons
 

@@ -29,20 +29,21 @@ countLine label n = labelled label n ++ lineEnd
 
 -- ---- polygons
 
--- "polygon 0 kind 1 surface 1 vertices"
-unfoldable pub heading : (number kind surface : ℕ) → List ℕ
-heading number kind surface = labelled (spelt "polygon ") number ++ labelled (spelt " kind ") kind ++ labelled (spelt " surface ") surface ++ spelt " vertices"
+-- "polygon 0 kind 1 surface 1 vertices"; #111: "The listing adds ` part N` before ` vertices`"
+unfoldable pub heading : (number kind surface partName : ℕ) → List ℕ
+heading number kind surface partName =
+    labelled (spelt "polygon ") number ++ labelled (spelt " kind ") kind ++ labelled (spelt " surface ") surface ++ labelled (spelt " part ") partName ++ spelt " vertices"
 
 -- "0 1 2", a blank before each
 unfoldable pub vertexTexts : List ℕ → List ℕ
 vertexTexts vs = joined (map (labelled (spelt " ")) vs)
 
 unfoldable pub polygonLine : (number : ℕ) → Polygon → List ℕ
-polygonLine number p = heading number (p .kind) (p .surface) ++ vertexTexts (p .vertices) ++ lineEnd
+polygonLine number p = heading number (p .kind) (p .surface) (p .partName) ++ vertexTexts (p .vertices) ++ lineEnd
 
--- the line of a polygon by its kind, its surface and its vertices
-abbrev pub lineOf : (number kind surface : ℕ) → (vertices : List ℕ) → List ℕ
-lineOf number kind surface vertices = polygonLine number (polygonOf kind surface vertices)
+-- the line of a polygon by its kind, its surface, its part name and its vertices
+abbrev pub lineOf : (number kind surface partName : ℕ) → (vertices : List ℕ) → List ℕ
+lineOf number kind surface partName vertices = polygonLine number (polygonOf kind surface partName vertices)
 
 -- a line a polygon, in order, counted from a number on
 unfoldable pub polygonLines : (number : ℕ) → List Polygon → List ℕ

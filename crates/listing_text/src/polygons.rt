@@ -10,13 +10,21 @@ use output::items::put_bytes;
 use words::wide;
 
 // What stands before the vertices of polygon `number`.
-fn put_heading(out: &mut [u8], at: usize, number: usize, kind: u32, surface: u32) -> usize
+fn put_heading(
+    out: &mut [u8],
+    at: usize,
+    number: usize,
+    kind: u32,
+    surface: u32,
+    part_name: u32,
+) -> usize
     requires { ⌜ at + headingSize ≤ length (now out) ⌝ }
-    ensures { λ r. ⌜ Prints (now (out .entry)) at (heading number kind surface) (now (out .exit)) r headingSize ⌝ }
+    ensures { λ r. ⌜ Prints (now (out .entry)) at (heading number kind surface «part_name») (now (out .exit)) r headingSize ⌝ }
 {
     let to_kind = put_labelled(out, at, b"polygon ", number);
     let to_surface = put_labelled(out, to_kind, b" kind ", wide(kind));
-    let to_end = put_labelled(out, to_surface, b" surface ", wide(surface));
+    let to_part = put_labelled(out, to_surface, b" surface ", wide(surface));
+    let to_end = put_labelled(out, to_part, b" part ", wide(part_name));
     put_bytes(out, to_end, b" vertices")
 }
 
@@ -41,12 +49,13 @@ fn put_polygon(
     number: usize,
     kind: u32,
     surface: u32,
+    part_name: u32,
     vertices: &[u32],
 ) -> usize
     requires { ⌜ at + lineSize (now vertices) ≤ length (now out) ⌝ }
-    ensures { λ r. ⌜ Prints (now (out .entry)) at (lineOf number kind surface (now (vertices .entry))) (now (out .exit)) r (lineSize (now (vertices .entry))) ⌝ }
+    ensures { λ r. ⌜ Prints (now (out .entry)) at (lineOf number kind surface «part_name» (now (vertices .entry))) (now (out .exit)) r (lineSize (now (vertices .entry))) ⌝ }
 {
-    let to_vertices = put_heading(out, at, number, kind, surface);
+    let to_vertices = put_heading(out, at, number, kind, surface, part_name);
     let to_end = put_vertices(out, to_vertices, vertices);
     put_bytes(out, to_end, b"\n")
 }
@@ -63,7 +72,15 @@ pub fn put_polygons(out: &mut [u8], at: usize, polygons: &[u32], vertices: &[u32
     while POLYGON_WORDS <= polygons.len() - entry {
         let p = polygon_at(polygons, entry, first);
         let end = p.end;
-        next = put_polygon(out, next, number, p.kind, p.surface, &vertices[first..end]);
+        next = put_polygon(
+            out,
+            next,
+            number,
+            p.kind,
+            p.surface,
+            p.part_name,
+            &vertices[first..end],
+        );
         number += 1;
         entry += POLYGON_WORDS;
         first = end;

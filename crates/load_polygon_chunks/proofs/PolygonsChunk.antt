@@ -176,7 +176,7 @@ module _ {kind : Kind} {t : ℕ} {s : List ℕ} {nameCount : ℕ} {l : Latest} {
 
     pub tags-room : PartRoom kind t s nameCount l words vertices
         → TagsRoom (whole 0 (taggingBody (latestCount l) (l .names)) 8 (drop 8 s)) (latestCount l) words (l .start)
-    tags-room r = rw (latest-count r) (record { type = tags-in r .of .0; listed = tags-in r .of .1; sound = tags-in r .sound; fits = latest-fits r })
+    tags-room r = rw (latest-count r) (record { sound = record { value = _; is = tags-in r .sound }; fits = latest-fits r })
 
     pub tags-put : {words′ : List ℕ} → TagsPut (whole 0 (taggingBody (latestCount l) (l .names)) 8 (drop 8 s)) (latestCount l) words (l .start) words′
         → PartPut kind t s nameCount l words words′ vertices vertices l

@@ -18,7 +18,7 @@ use Rattle.load_vertices.proofs.VerticesAfterCount.{counted-fine, run-room, run
 
 module _ (kind : ℕ) where
   abbrev bare : List ℕ → Polygon
-  bare vs = polygonOf kind 0 vs
+  bare vs = polygonOf kind 0 0 vs
 
   bare-keeps : (vs : List ℕ) (at : ℕ) (t : List ℕ) (g : Got Polygon) → give (bare vs) at t ≡ fine g → g .value .vertices ≡ vs
   bare-keeps vs at t g e = let same : record { value = bare vs; next = at; left = t } ≡ g = cc in sym (ap (λ g. g .value .vertices) same)
@@ -34,7 +34,7 @@ module _ (kind : ℕ) where
       unfolding polygon lwo2Vertices
       polygon-vertices = run-room countBits (λ n. leb 1 (countBits n)) vx (λ vs. give (bare vs)) itself bare-keeps r w
 
-      pub polygon-put : {words′ vertices′ : List ℕ} {end : ℕ} → Put words (e .polygons) (kind ∷ countBits n ∷ 0 ∷ []) words′
+      pub polygon-put : {words′ vertices′ : List ℕ} {end : ℕ} → Put words (e .polygons) (kind ∷ countBits n ∷ 0 ∷ 0 ∷ []) words′
           → VerticesPut vx (countBits n) (l .points) (l .base) s next vertices (e .vertices) vertices′ end
           → EntryPut (polygon (l .points) kind) itself l e s at words words′ vertices vertices′ end (countBits n)
       unfolding polygon lwo2Vertices

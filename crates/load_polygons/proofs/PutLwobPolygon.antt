@@ -126,7 +126,7 @@ module _ {l : Lists} {e : Ends} {s : List ℕ} {at : ℕ} {words vertices : List
       face-put {n} d =
           let z = number-read .value in
           let made : _≡_ {A = Polygon} (surfaced FACE (q .put .entry .vertices) z) (q .put .entry)
-          = ap (λ y. polygonOf FACE (y .number) (q .put .entry .vertices)) (number-read .shows) ∙ sym (q .made) in
+          = ap (λ y. polygonOf FACE (y .number) 0 (q .put .entry .vertices)) (number-read .shows) ∙ sym (q .made) in
           record {
             entry = (q .put .entry, n);
             reads = record {

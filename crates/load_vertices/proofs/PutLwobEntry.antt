@@ -24,7 +24,7 @@ use Rattle.load_vertices.proofs.VerticesAfterCount.{counted-fine, run-r
 
 module _ (kind : ℕ) where
   abbrev pub surfaced : List ℕ → ℤ → Polygon
-  surfaced vs z = polygonOf kind (absolute z) vs
+  surfaced vs z = polygonOf kind (absolute z) 0 vs
 
   abbrev pub rest : List ℕ → Reader Polygon
   rest vs = i2 >>= (λ z. give (surfaced vs z))
@@ -58,15 +58,15 @@ module _ (kind : ℕ) where
         surface-fine = sound-first _ _ end (drop end s) (sound-next _ _ run (r .sound))
 
         pub lwob-entry-put : {x : SignedSurface} {last : Cursor} {words′ : List ℕ} → Keeps i2 signedSurfaceOf (taking 2) s end (got s x (last .at))
-            → Put words (e .polygons) (kind ∷ n ∷ x .number ∷ []) words′
+            → Put words (e .polygons) (kind ∷ n ∷ x .number ∷ 0 ∷ []) words′
             → LwobEntryPut kind l e s at words words′ vertices vertices′ (record { next = last; vertices = n; sign = x })
         unfolding lwobEntry
         lwob-entry-put {x} {last} v p =
             let many = vertices-counted q in
             let placed : length (map (λ v. l .base + v) (q .vertices)) ≡ n = above-length (l .base) (q .vertices) ∙ many in
-            let made : Polygon = polygonOf kind (x .number) (q .vertices) in
+            let made : Polygon = polygonOf kind (x .number) 0 (q .vertices) in
             let is : (z : ℤ) → signedSurfaceOf z ≡ x → surfaced (q .vertices) z ≡ made
-            = λ z e. ap (λ y. polygonOf kind (y .number) (q .vertices)) e in
+            = λ z e. ap (λ y. polygonOf kind (y .number) 0 (q .vertices)) e in
             record {
               put = record {
                 entry = made;

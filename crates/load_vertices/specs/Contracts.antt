@@ -55,7 +55,7 @@ unfoldable pub lwobEntry : (pointCount kind : ℕ) → Reader Polygon
 lwobEntry pointCount kind = do
   vs ← lwobVertices pointCount
   z ← i2
-  give (polygonOf kind (absolute z) vs)
+  give (polygonOf kind (absolute z) 0 vs)
 
 -- It is put, with its vertices up to the place `end`, and its surface number after them.
 pub record LwobEntryPut (kind : ℕ) (l : Lists) (e : Ends) (s : List ℕ) (at : ℕ) (words words′ vertices vertices′ : List ℕ)
@@ -64,4 +64,4 @@ pub record LwobEntryPut (kind : ℕ) (l : Lists) (e : Ends) (s : List ℕ) (at :
   pub end : ℕ
   pub run : Says (lwobVertices (l .points)) itself s at (got s (put .entry .vertices) end)
   pub sign : Keeps i2 signedSurfaceOf (taking 2) s end (got s (answer .sign) (answer .next .at))
-  pub made : put .entry ≡ polygonOf kind (answer .sign .number) (put .entry .vertices)
+  pub made : put .entry ≡ polygonOf kind (answer .sign .number) 0 (put .entry .vertices)

@@ -33,9 +33,9 @@ pub struct LwoWritten {
 // The library's version, its three numbers in one: the last two have eight bits each, and the first what is above them. The header has the same.
 #[no_mangle]
 pub extern "C" fn lwo_version() -> u32
-    ensures { λ r. ⌜ r ≡ version 0 1 0 ⌝ }
+    ensures { λ r. ⌜ r ≡ version 0 2 0 ⌝ }
 {
-    256
+    512
 }
 
 // `read`, with its answer in C's types.

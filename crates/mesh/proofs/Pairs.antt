@@ -1,4 +1,4 @@
--- The pairs of a PTAG by the surfaces of a run: the first surface has the first pair, or none.
+-- The pairs of a PTAG by the surface numbers, or the part names, of a run: the first number has the first pair, or none.
 use Prim.Native.Nat.{ℕ, suc, _+_, _-_}
 use mathlib.Core.Path.{_≡_, refl, ap, _∙_}
 use mathlib.Core.List.{List, [], _∷_, _++_, map}
@@ -16,23 +16,24 @@ use Rattle.format.proofs.CanonicalLengths.{length-vx}
 use Rattle.mesh.specs.Polygons.{pairOf, pairsFrom}
 
 -- they are the specification's
-pub pairs-are : (i : ℕ) (ps : List Polygon) → joined (map pairBytes (pairsOf i ps)) ≡ pairsFrom i (map (λ p. p .surface) ps)
-unfolding pairsOf pairsFrom joined
-pairs-are i [] = refl
-pairs-are i (p ∷ ps) = go (eqb (p .surface) 0) (pairs-are (suc i) ps)
-  where
-    go : (b : Bool) → joined (map pairBytes (pairsOf (suc i) ps)) ≡ pairsFrom (suc i) (map (λ p. p .surface) ps)
-        → joined (map pairBytes ((if b then [] else (i, p .surface) ∷ []) ++ pairsOf (suc i) ps)) ≡ (if b then [] else pairBytes (i, p .surface)) ++ pairsFrom (suc i) (map (λ p. p .surface) ps)
-    go true later = later
-    go false later = ap (λ (l : List ℕ). pairBytes (i, p .surface) ++ l) later
+module _ (number : Polygon → ℕ) where
+  pub pairs-are : (i : ℕ) (ps : List Polygon) → joined (map pairBytes (pairsOf number i ps)) ≡ pairsFrom i (map number ps)
+  unfolding pairsOf pairsFrom joined
+  pairs-are i [] = refl
+  pairs-are i (p ∷ ps) = go (eqb (number p) 0) (pairs-are (suc i) ps)
+    where
+      go : (b : Bool) → joined (map pairBytes (pairsOf number (suc i) ps)) ≡ pairsFrom (suc i) (map number ps)
+          → joined (map pairBytes ((if b then [] else (i, number p) ∷ []) ++ pairsOf number (suc i) ps)) ≡ (if b then [] else pairBytes (i, number p)) ++ pairsFrom (suc i) (map number ps)
+      go true later = later
+      go false later = ap (λ (l : List ℕ). pairBytes (i, number p) ++ l) later
 
-module _ (i s : ℕ) (ss : List ℕ) where
-  pub pairs-left : pairsFrom i (s ∷ ss) ≡ pairOf i s ++ pairsFrom (i + 1) ss
+module _ (i n : ℕ) (ns : List ℕ) where
+  pub pairs-left : pairsFrom i (n ∷ ns) ≡ pairOf i n ++ pairsFrom (i + 1) ns
   unfolding pairsFrom
   pairs-left = rw add-one
 
-  pub pairs-more : length (pairsFrom i (s ∷ ss)) ≡ length (pairOf i s) + length (pairsFrom (i + 1) ss)
-  pairs-more = ap length pairs-left ∙ length-append (pairOf i s) (pairsFrom (i + 1) ss)
+  pub pairs-more : length (pairsFrom i (n ∷ ns)) ≡ length (pairOf i n) + length (pairsFrom (i + 1) ns)
+  pairs-more = ap length pairs-left ∙ length-append (pairOf i n) (pairsFrom (i + 1) ns)
 
 -- a pair has some bytes, so there are none where there are no bytes
 pub some-pairs : (t : ℕ × ℕ) (ts : List (ℕ × ℕ)) → total pairBytes (t ∷ ts) ≡ 0 → ⊥
@@ -43,13 +44,13 @@ some-pairs t ts none =
 
 -- ---- one of them
 
-module _ (i surface : ℕ) where
-  pub no-pair : surface ≡ 0 → pairOf i surface ≡ []
-  no-pair e = rw (eq-eqb surface 0 e)
+module _ (i number : ℕ) where
+  pub no-pair : number ≡ 0 → pairOf i number ≡ []
+  no-pair e = rw (eq-eqb number 0 e)
 
-  pub a-pair : (surface ≡ 0 → ⊥) → pairOf i surface ≡ vxBytes i ++ bytes 2 (surface - 1)
+  pub a-pair : (number ≡ 0 → ⊥) → pairOf i number ≡ vxBytes i ++ bytes 2 (number - 1)
   unfolding pairBytes
-  a-pair e = rw (ne-eqb surface 0 e)
+  a-pair e = rw (ne-eqb number 0 e)
 
-  pub pair-parts : (surface ≡ 0 → ⊥) → length (pairOf i surface) ≡ length (vxBytes i) + length (bytes 2 (surface - 1))
-  pair-parts e = ap length (a-pair e) ∙ length-append (vxBytes i) (bytes 2 (surface - 1))
+  pub pair-parts : (number ≡ 0 → ⊥) → length (pairOf i number) ≡ length (vxBytes i) + length (bytes 2 (number - 1))
+  pair-parts e = ap length (a-pair e) ∙ length-append (vxBytes i) (bytes 2 (number - 1))

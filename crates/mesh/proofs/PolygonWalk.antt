@@ -53,7 +53,7 @@ module _ {ws vs : List ℕ} {Left : List Polygon → Type 0} {at first : ℕ} (w
       abbrev later : List Polygon
       later = meshPolygons (drop (at + polygonSize) ws) (drop (p .end) vs)
 
-      pub here : Left (polygonOf (p .kind) (p .surface) own ∷ later)
+      pub here : Left (polygonOf (p .kind) (p .surface) (p .«part_name») own ∷ later)
       here = rw (is, part first (word 1 (entryAt polygonSize at ws)) vs) (rw (polygons-at at first ws vs fits) at (w .left))
 
       pub turn : {Left′ : List Polygon → Type 0} → Left′ later → PolygonWalk ws vs Left′ (at + polygonSize) (p .end)

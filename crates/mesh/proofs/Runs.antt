@@ -54,6 +54,10 @@ pub surfaces : (ws vs : List ℕ) → map (λ p. p .surface) (meshPolygons ws vs
 unfolding meshPolygons
 surfaces ws vs = fields (λ p. p .surface) 2 (λ w vs. refl) (entries polygonSize ws) vs
 
+pub part-names : (ws vs : List ℕ) → map (λ p. p .partName) (meshPolygons ws vs) ≡ column polygonSize 3 ws
+unfolding meshPolygons
+part-names ws vs = fields (λ p. p .partName) 3 (λ w vs. refl) (entries polygonSize ws) vs
+
 pub length-polygons : (ws vs : List ℕ) → length (meshPolygons ws vs) ≡ length ws / polygonSize
 length-polygons ws vs = sym (length-map (meshPolygons ws vs) kindOf) ∙ ap length (kinds ws vs) ∙ length-map (entries polygonSize ws) (word 0) ∙ length-entries polygonSize ws
 

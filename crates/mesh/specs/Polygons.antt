@@ -17,6 +17,7 @@ abbrev pub polygonAt : (polygons : List ℕ) → (at first : ℕ) → Polygon
 polygonAt ws at first = record {
   kind = word 0 (entryAt polygonSize at ws);
   surface = word 2 (entryAt polygonSize at ws);
+  «part_name» = word 3 (entryAt polygonSize at ws);
   first = first;
   end = first + word 1 (entryAt polygonSize at ws);
 }
@@ -38,10 +39,10 @@ leading k (n ∷ ns) = if eqb k n then suc (leading k ns) else 0
 abbrev pub runEnd : (polygons : List ℕ) → (at : ℕ) → ℕ
 runEnd ws at = at + polygonSize + leading (word 0 (entryAt polygonSize at ws)) (column polygonSize 0 (drop (at + polygonSize) ws)) * polygonSize
 
--- the pairs of a run as bytes, by the surfaces of its polygons: one for each that has a surface; i is its number in the run
-abbrev pub pairOf : (i surface : ℕ) → List ℕ
-pairOf i surface = if eqb surface 0 then [] else pairBytes (i, surface)
+-- the pairs of a run as bytes, by the surface numbers of its polygons or by their part names: one for each that is not 0; i is the polygon's number in the run
+abbrev pub pairOf : (i number : ℕ) → List ℕ
+pairOf i number = if eqb number 0 then [] else pairBytes (i, number)
 
-unfoldable pub pairsFrom : (i : ℕ) → (surfaces : List ℕ) → List ℕ
+unfoldable pub pairsFrom : (i : ℕ) → (numbers : List ℕ) → List ℕ
 pairsFrom i [] = []
-pairsFrom i (s ∷ ss) = pairOf i s ++ pairsFrom (suc i) ss
+pairsFrom i (n ∷ ns) = pairOf i n ++ pairsFrom (suc i) ns

@@ -16,7 +16,7 @@ pub fn word_at(words: &[u32], size: usize, at: usize, index: usize) -> u32
     words[at + index]
 }
 
-// The sum of one word of each entry. It cannot wrap: there are fewer than 2 ^ 26 words, each below 2 ^ 32.
+// The sum of one word of each entry. It cannot wrap: there are at most 2 ^ 26 words, each below 2 ^ 32.
 pub fn sum_of(words: &[u32], size: usize, index: usize) -> usize
     requires { ⌜ (index < size) × (length (now words) ≤ polygonSize * entryLimit) ⌝ }
     ensures { λ r. ⌜ r ≡ sum (column size index (now (words .entry))) ⌝ }

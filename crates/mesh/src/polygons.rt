@@ -1,4 +1,4 @@
-// The polygons table: an entry is three words, the kind, the vertex count and the surface number. `at` is the place of an entry's first word.
+// The polygons table: an entry is four words, the kind, the vertex count, the surface number and the part name. `at` is the place of an entry's first word.
 // Code that walks the table sees each polygon by `polygon_at`: which word is what is known here, and beside it by the code that puts the words.
 ghost use mathlib.Core.Path.{_≡_};
 ghost use Prim.Native.Nat.{_+_, _*_, _≤_, _<_, _^_};
@@ -11,13 +11,16 @@ ghost use Rattle.mesh.specs.Lent.{entryAt};
 ghost use Rattle.mesh.specs.Polygons.{polygonAt, runEnd};
 use crate::columns::sum_of;
 use crate::columns::word_at;
+use format::PART_WORD;
 use format::POLYGON_WORDS;
+use format::SURFACE_WORD;
 use words::wide;
 
-// One polygon of the tables: its kind, its surface number, and the places where its vertices begin and end.
+// One polygon of the tables: its kind, its surface number, its part name, and the places where its vertices begin and end.
 pub struct Polygon {
     pub kind: u32,
     pub surface: u32,
+    pub part_name: u32,
     pub first: usize,
     pub end: usize,
 }
@@ -29,10 +32,12 @@ pub fn polygon_at(polygons: &[u32], at: usize, first: usize) -> Polygon
 {
     let kind = word_at(polygons, POLYGON_WORDS, at, 0);
     let count = word_at(polygons, POLYGON_WORDS, at, 1);
-    let surface = word_at(polygons, POLYGON_WORDS, at, 2);
+    let surface = word_at(polygons, POLYGON_WORDS, at, SURFACE_WORD);
+    let part_name = word_at(polygons, POLYGON_WORDS, at, PART_WORD);
     Polygon {
         kind,
         surface,
+        part_name,
         first,
         end: first + wide(count),
     }
@@ -44,14 +49,6 @@ pub fn kind(polygons: &[u32], at: usize) -> u32
     ensures { λ r. ⌜ r ≡ word 0 (entryAt polygonSize at (now (polygons .entry))) ⌝ }
 {
     word_at(polygons, POLYGON_WORDS, at, 0)
-}
-
-// The surface number alone, for the pairs of a PTAG.
-pub fn surface(polygons: &[u32], at: usize) -> u32
-    requires { ⌜ at + polygonSize ≤ length (now polygons) ⌝ }
-    ensures { λ r. ⌜ r ≡ word 2 (entryAt polygonSize at (now (polygons .entry))) ⌝ }
-{
-    word_at(polygons, POLYGON_WORDS, at, 2)
 }
 
 // How many vertices the polygons have together.

@@ -1,8 +1,10 @@
 // The body of a PTAG chunk.
+ghost use Rattle.format.specs.Items.{many};
 ghost use Rattle.format.specs.Bodies.{pair, taggingBody};
-ghost use Rattle.format.specs.Contracts.{nothing, Judged, JudgedAt, taggingPairs};
+ghost use Rattle.format.specs.Contracts.{nothing, Judged, JudgedAt};
 ghost use Rattle.wire.specs.Contracts.{StepAt, checkedAs};
 use format::Fault;
+use format::tags::PART;
 use format::tags::SURF;
 use wire::Checked;
 use wire::Refusal;
@@ -48,7 +50,7 @@ fn one_pair(s: &[u8], c: Cursor, polygons: usize, names: usize) -> Step
 
 // The pairs from a place up to the body's end.
 fn pairs(s: &[u8], from: Cursor, polygons: usize, names: usize) -> Checked
-    ensures { λ r. ⌜ JudgedAt 0 (from .at) (taggingPairs polygons names) nothing (now (s .entry)) (checkedAs r) ⌝ }
+    ensures { λ r. ⌜ JudgedAt 0 (from .at) (many (pair polygons names)) nothing (now (s .entry)) (checkedAs r) ⌝ }
 {
     let mut at = from.at;
     while at < s.len() {
@@ -64,7 +66,7 @@ fn pairs(s: &[u8], from: Cursor, polygons: usize, names: usize) -> Checked
     Checked::Fine
 }
 
-// Only tags of surfaces are judged: of another type the four bytes are required, and no more.
+// Only tags of surfaces and of parts are judged: of another type the four bytes are required, and no more.
 pub fn tagging_body(s: &[u8], polygons: usize, names: usize) -> Checked
     ensures { λ r. ⌜ Judged (taggingBody polygons names) nothing (now (s .entry)) (checkedAs r) ⌝ }
 {
@@ -75,7 +77,7 @@ pub fn tagging_body(s: &[u8], polygons: usize, names: usize) -> Checked
             at: 8,
         });
     };
-    if t == SURF {
+    if (t == SURF) | (t == PART) {
         pairs(s, first, polygons, names)
     } else {
         Checked::Fine

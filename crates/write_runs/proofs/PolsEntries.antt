@@ -44,7 +44,7 @@ module _ {ws vs t t′ : List ℕ} {at next entry first : ℕ} (w : PolsPut ws v
     abbrev later : List Polygon
     later = meshPolygons (drop (entry + polygonSize) ws) (drop (p .end) vs)
 
-    one : NextPart (polygonsBytes (polygonOf (p .kind) (p .surface) own ∷ later)) (verticesBytes own) (polygonsBytes later)
+    one : NextPart (polygonsBytes (polygonOf (p .kind) (p .surface) (p .«part_name») own ∷ later)) (verticesBytes own) (polygonsBytes later)
     unfolding joined polygonBytes
     one = record { is = refl }
 

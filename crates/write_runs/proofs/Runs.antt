@@ -1,6 +1,7 @@
--- A run is a POLS and, where some polygon has a surface, a PTAG; all runs are a walk that puts the chunks of each behind those before it.
+-- A run is a POLS and, where some polygon has a surface or a part name, a PTAG of each; all runs are a walk that puts the chunks of each behind those before it.
 use Prim.Native.Nat.{ℕ, suc, _+_, _-_, _<_, _≤_, _^_}
-use mathlib.Core.Path.{_≡_, refl, sym, _∙_}
+use Prim.Native.String.{String}
+use mathlib.Core.Path.{_≡_, refl, sym, ap, _∙_}
 use mathlib.Core.List.{List, [], _∷_, _++_, map, append-nil}
 use mathlib.Core.Bool.{Bool, true, false, _&&_, true≢false}
 use native.Mathlib.Omega.{arith}
@@ -9,7 +10,7 @@ use lib.ListN.{length, take, drop, length-append}
 use borrow.Author.Tests.{eq-eqb, ne-eqb}
 use Rattle.format.specs.Bytes.{number, tagNumber, if_then_else_, spelt, all, sum, joined}
 use Rattle.format.specs.Mesh.{Polygon, word, polygonSize}
-use Rattle.format.specs.Canonical.{bytes, vxBytes, chunkBytes, polygonBytes, typeOf, pairsOf, pairBytes, runs, unlessEmpty, runChunks, encoded}
+use Rattle.format.specs.Canonical.{bytes, vxBytes, chunkBytes, polygonBytes, typeOf, pairsOf, pairBytes, runs, unlessEmpty, taggingChunk, runChunks, encoded}
 use Rattle.format.specs.Written.{vertexCounts}
 use Rattle.format.proofs.Puts.{joined-map-append}
 use Rattle.format.proofs.Facts.{all-part, all-first, all-rest}
@@ -20,13 +21,13 @@ use Rattle.mesh.proofs.Entries.{polygons-at}
 use Rattle.mesh.proofs.RunWalk as run-walk
 use Rattle.mesh.proofs.RunWalk.{RunWalk}
 use Rattle.output.specs.Outputs.{Wrote, chunksBytes}
-use Rattle.write_runs.specs.Runs.{unlessNoBytes, Indexed, RunLent}
+use Rattle.write_runs.specs.Runs.{taggingBytes, Indexed, RunLent}
 use Rattle.output.proofs.PutSoFar as bytes-put
 use Rattle.output.proofs.PutSoFar.{PutSoFar, NextPart}
 use Rattle.output.proofs.Parts.{in-two}
 use Rattle.output.proofs.Chunks.{BodyFirst, chunk-is}
 use Rattle.mesh.proofs.Pairs.{some-pairs, pairs-are}
-use Rattle.mesh.proofs.Runs.{surfaces}
+use Rattle.mesh.proofs.Runs.{surfaces, part-names}
 
 -- ---- one run
 
@@ -38,53 +39,70 @@ pub pols : (run vs : List ℕ) {t : List ℕ} {at : ℕ} → at + length (chunkB
 unfolding bytes number
 pols run vs fits = record { is = chunk-is 4 (tagNumber "POLS") "POLS" (polsBody run vs) refl; fits = fits }
 
-module _ (entries : List ℕ) where
-  pub no-ptag : length entries ≡ 0 → unlessNoBytes "PTAG" "SURF" entries ≡ []
-  no-ptag none = rw (eq-eqb (length entries) 0 none)
+module _ (type : ℕ) (pairs : List ℕ) where
+  pub no-ptag : length pairs ≡ 0 → taggingBytes type pairs ≡ []
+  no-ptag none = rw (eq-eqb (length pairs) 0 none)
 
-  some-ptag : (length entries ≡ 0 → ⊥) → unlessNoBytes "PTAG" "SURF" entries ≡ chunkBytes 4 "PTAG" (spelt "SURF" ++ entries)
-  some-ptag some = rw (ne-eqb (length entries) 0 some)
+  some-ptag : (length pairs ≡ 0 → ⊥) → taggingBytes type pairs ≡ chunkBytes 4 "PTAG" (bytes 4 type ++ pairs)
+  some-ptag some = rw (ne-eqb (length pairs) 0 some)
 
-  pub ptag : {t : List ℕ} {at : ℕ} → (length entries ≡ 0 → ⊥) → at + length (unlessNoBytes "PTAG" "SURF" entries) ≤ length t
-      → BodyFirst (unlessNoBytes "PTAG" "SURF" entries) (tagNumber "PTAG") (spelt "SURF" ++ entries) t at
+  pub ptag : {t : List ℕ} {at : ℕ} → (length pairs ≡ 0 → ⊥) → at + length (taggingBytes type pairs) ≤ length t
+      → BodyFirst (taggingBytes type pairs) (tagNumber "PTAG") (bytes 4 type ++ pairs) t at
   unfolding bytes number
-  ptag some fits = record { is = some-ptag some ∙ chunk-is 4 (tagNumber "PTAG") "PTAG" (spelt "SURF" ++ entries) refl; fits = fits }
+  ptag some fits = record { is = some-ptag some ∙ chunk-is 4 (tagNumber "PTAG") "PTAG" (bytes 4 type ++ pairs) refl; fits = fits }
 
--- a run has pairs where some of its polygons have a surface
-pub no-pairs : (i : ℕ) (ss : List ℕ) → all (λ s. eqb s 0) ss ≡ true → length (pairsFrom i ss) ≡ 0
+-- a run has pairs where some of its numbers are not 0
+pub no-pairs : (i : ℕ) (ns : List ℕ) → all (λ n. eqb n 0) ns ≡ true → length (pairsFrom i ns) ≡ 0
 unfolding pairsFrom
 no-pairs i [] none = refl
-no-pairs i (s ∷ ss) none = rw (all-first (λ s. eqb s 0) s ss none) (no-pairs (suc i) ss (all-rest (λ s. eqb s 0) s ss none))
+no-pairs i (n ∷ ns) none = rw (all-first (λ n. eqb n 0) n ns none) (no-pairs (suc i) ns (all-rest (λ n. eqb n 0) n ns none))
 
-pub a-pair-there : (i : ℕ) (ss : List ℕ) → all (λ s. eqb s 0) ss ≡ false → length (pairsFrom i ss) ≡ 0 → ⊥
+pub a-pair-there : (i : ℕ) (ns : List ℕ) → all (λ n. eqb n 0) ns ≡ false → length (pairsFrom i ns) ≡ 0 → ⊥
 unfolding all pairsFrom pairBytes
 a-pair-there i [] some none = true≢false some
-a-pair-there i (s ∷ ss) some none = go (eqb s 0) (a-pair-there (suc i) ss) some none
+a-pair-there i (n ∷ ns) some none = go (eqb n 0) (a-pair-there (suc i) ns) some none
   where
-    go : (b : Bool) → (all (λ s. eqb s 0) ss ≡ false → length (pairsFrom (suc i) ss) ≡ 0 → ⊥)
-        → (b && all (λ s. eqb s 0) ss) ≡ false → length ((if b then [] else pairBytes (i, s)) ++ pairsFrom (suc i) ss) ≡ 0 → ⊥
+    go : (b : Bool) → (all (λ n. eqb n 0) ns ≡ false → length (pairsFrom (suc i) ns) ≡ 0 → ⊥)
+        → (b && all (λ n. eqb n 0) ns) ≡ false → length ((if b then [] else pairBytes (i, n)) ++ pairsFrom (suc i) ns) ≡ 0 → ⊥
     go true later some none = later some none
     go false later some none =
-        let tag = bytes 2 (s - 1) in
-        omega (arith, none, length-append (vxBytes i ++ tag) (pairsFrom (suc i) ss), length-append (vxBytes i) tag, length-bytes 2 (s - 1))
+        let tag = bytes 2 (n - 1) in
+        omega (arith, none, length-append (vxBytes i ++ tag) (pairsFrom (suc i) ns), length-append (vxBytes i) tag, length-bytes 2 (n - 1))
 
-by-pairs : (ts : List (ℕ × ℕ)) → chunksBytes (unlessEmpty "PTAG" "SURF" pairBytes ts) ≡ unlessNoBytes "PTAG" "SURF" (joined (map pairBytes ts))
-unfolding unlessEmpty joined
-by-pairs [] = refl
-by-pairs (t ∷ ts) = append-nil (chunkBytes 4 "PTAG" (spelt "SURF" ++ joined (map pairBytes (t ∷ ts)))) ∙ sym (some-ptag (joined (map pairBytes (t ∷ ts))) (some-pairs t ts))
+module _ (type : String) (n : ℕ) (spells : spelt type ≡ bytes 4 n) where
+  by-pairs : (ts : List (ℕ × ℕ)) → chunksBytes (unlessEmpty "PTAG" type pairBytes ts) ≡ taggingBytes n (joined (map pairBytes ts))
+  unfolding unlessEmpty joined
+  by-pairs [] = refl
+  by-pairs (t ∷ ts) =
+      rw spells (append-nil (chunkBytes 4 "PTAG" (bytes 4 n ++ joined (map pairBytes (t ∷ ts)))) ∙ sym (some-ptag n (joined (map pairBytes (t ∷ ts))) (some-pairs t ts)))
 
-both-chunks : (ps : List Polygon) (p : Polygon) (r : List Polygon) → ps ≡ p ∷ r
-    → chunksBytes (runChunks ps) ≡ chunkBytes 4 "POLS" (spelt (typeOf (p .kind)) ++ joined (map polygonBytes ps)) ++ unlessNoBytes "PTAG" "SURF" (pairsFrom 0 (map (λ p. p .surface) ps))
-unfolding runChunks unlessEmpty joined
-both-chunks ps p r are =
+  by-numbers : (number : Polygon → ℕ) (ps : List Polygon) → chunksBytes (taggingChunk type number ps) ≡ taggingBytes n (pairsFrom 0 (map number ps))
+  by-numbers number ps = by-pairs (pairsOf number 0 ps) ∙ rw (pairs-are number 0 ps)
+
+abbrev pub surfaceTagging : List ℕ → List ℕ
+surfaceTagging ns = taggingBytes (tagNumber "SURF") (pairsFrom 0 ns)
+
+abbrev pub partTagging : List ℕ → List ℕ
+partTagging ns = taggingBytes (tagNumber "PART") (pairsFrom 0 ns)
+
+all-chunks : (ps : List Polygon) (p : Polygon) (r : List Polygon) → ps ≡ p ∷ r
+    → chunksBytes (runChunks ps)
+    ≡ chunkBytes 4 "POLS" (spelt (typeOf (p .kind)) ++ joined (map polygonBytes ps)) ++ (surfaceTagging (map (λ p. p .surface) ps) ++ partTagging (map (λ p. p .partName) ps))
+unfolding runChunks unlessEmpty joined bytes number
+all-chunks ps p r are =
+    let surfaces = taggingChunk "SURF" (λ p. p .surface) (p ∷ r) in
+    let parts = taggingChunk "PART" (λ p. p .partName) (p ∷ r) in
     rw are
-    (joined-map-append encoded (unlessEmpty "POLS" (typeOf (p .kind)) polygonBytes (p ∷ r)) (unlessEmpty "PTAG" "SURF" pairBytes (pairsOf 0 (p ∷ r)))
-    ∙ rw (append-nil (chunkBytes 4 "POLS" (spelt (typeOf (p .kind)) ++ joined (map polygonBytes (p ∷ r)))), by-pairs (pairsOf 0 (p ∷ r)), pairs-are 0 (p ∷ r)))
+    (joined-map-append encoded (unlessEmpty "POLS" (typeOf (p .kind)) polygonBytes (p ∷ r)) (surfaces ++ parts)
+    ∙ rw (append-nil (chunkBytes 4 "POLS" (spelt (typeOf (p .kind)) ++ joined (map polygonBytes (p ∷ r)))), joined-map-append encoded surfaces parts, by-numbers "SURF" (tagNumber "SURF") refl (λ p. p .surface) (p ∷ r), by-numbers "PART" (tagNumber "PART") refl (λ p. p .partName) (p ∷ r)))
 
 pub run-chunks-are : (run vs : List ℕ) → polygonSize ≤ length run
-    → chunksBytes (runChunks (meshPolygons run vs)) ≡ joined (chunkBytes 4 "POLS" (polsBody run vs) ∷ unlessNoBytes "PTAG" "SURF" (pairsFrom 0 (column polygonSize 2 run)) ∷ [])
+    → chunksBytes (runChunks (meshPolygons run vs))
+    ≡ joined (chunkBytes 4 "POLS" (polsBody run vs) ∷ surfaceTagging (column polygonSize 2 run) ∷ partTagging (column polygonSize 3 run) ∷ [])
+unfolding joined
 run-chunks-are run vs some =
-    rw (surfaces run vs) at (both-chunks (meshPolygons run vs) _ _ (polygons-at 0 0 run vs (omega arith))) ∙ in-two (chunkBytes 4 "POLS" (polsBody run vs)) (unlessNoBytes "PTAG" "SURF" (pairsFrom 0 (column polygonSize 2 run)))
+    rw (surfaces run vs, part-names run vs) at (all-chunks (meshPolygons run vs) _ _ (polygons-at 0 0 run vs (omega arith)))
+    ∙ ap (λ l. chunkBytes 4 "POLS" (polsBody run vs) ++ l) (in-two (surfaceTagging (column polygonSize 2 run)) (partTagging (column polygonSize 3 run)))
 
 -- ---- all runs
 

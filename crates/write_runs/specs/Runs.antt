@@ -14,9 +14,9 @@ use Rattle.mesh.specs.Lent.{meshPolygons}
 use Rattle.mesh.specs.Polygons.{PolygonsLent}
 use Rattle.format.specs.Contracts.{total}
 
--- a chunk that is left out where its entries have no bytes
-abbrev pub unlessNoBytes : (tag type : String) → List ℕ → List ℕ
-unlessNoBytes tag type entries = if eqb (length entries) 0 then [] else chunkBytes 4 tag (spelt type ++ entries)
+-- a PTAG by the number of its type and by its pairs, left out where these have no bytes
+abbrev pub taggingBytes : (type : ℕ) → (pairs : List ℕ) → List ℕ
+taggingBytes type pairs = if eqb (length pairs) 0 then [] else chunkBytes 4 "PTAG" (bytes 4 type ++ pairs)
 
 -- a polygon of a POLS: its vertex count and its vertices
 abbrev pub verticesBytes : List ℕ → List ℕ

@@ -1,7 +1,7 @@
-// The chunks of the runs put into the output: for each run a POLS and, where some of its polygons have a surface, a PTAG.
+// The chunks of the runs put into the output: for each run a POLS and, where some of its polygons have a surface or a part name, a PTAG of each.
 ghost use mathlib.Core.Path.{_≡_};
 ghost use mathlib.Core.List.{_++_, map};
-ghost use Prim.Native.Nat.{_+_, _*_, _≤_};
+ghost use Prim.Native.Nat.{_+_, _*_, _≤_, _<_};
 ghost use lib.ListN.{length};
 ghost use Rattle.format.specs.Bytes.{spelt, joined};
 ghost use Rattle.format.specs.Limits.{entryLimit};
@@ -10,12 +10,15 @@ ghost use Rattle.format.specs.Canonical.{bytes, chunkBytes, polygonBytes, typeO
 ghost use Rattle.mesh.specs.Lent.{entryAt, column, meshPolygons};
 ghost use Rattle.mesh.specs.Polygons.{pairsFrom};
 ghost use Rattle.output.specs.Outputs.{Wrote, chunksBytes};
-ghost use Rattle.write_runs.specs.Runs.{unlessNoBytes, Indexed, RunLent};
-use crate::pairs::no_surfaces;
+ghost use Rattle.write_runs.specs.Runs.{taggingBytes, Indexed, RunLent};
+use crate::pairs::no_pairs;
 use crate::pairs::put_pairs;
 use crate::polygons::put_polygons;
+use format::PART_WORD;
 use format::POLYGON_WORDS;
+use format::SURFACE_WORD;
 use format::tags::FACE;
+use format::tags::PART;
 use format::tags::POLS;
 use format::tags::PTAG;
 use format::tags::PTCH;
@@ -46,26 +49,28 @@ fn put_pols(out: &mut [u8], at: usize, run: &[u32], vertices: &[u32]) -> usize
     close_chunk(out, at, POLS, end)
 }
 
-// PTAG is left out where no polygon of the run has a surface. The polygons of a POLS are numbered from 0.
-fn put_ptag(out: &mut [u8], at: usize, run: &[u32]) -> usize
-    requires { ⌜ (length (now run) ≤ polygonSize * entryLimit) × (at + length (unlessNoBytes "PTAG" "SURF" (pairsFrom 0 (column polygonSize 2 (now run)))) ≤ length (now out)) ⌝ }
-    ensures { λ r. ⌜ Wrote (now (out .entry)) at (unlessNoBytes "PTAG" "SURF" (pairsFrom 0 (column polygonSize 2 (now (run .entry))))) (now (out .exit)) r ⌝ }
+// A PTAG of a type, for a word of an entry: SURF for the surface number, PART for the part name. It is left out where that is 0 in every polygon of the run. The
+// polygons of a POLS are numbered from 0.
+fn put_ptag(out: &mut [u8], at: usize, tagging: u32, run: &[u32], index: usize) -> usize
+    requires { ⌜ (length (now run) ≤ polygonSize * entryLimit) × (index < polygonSize) × (at + length (taggingBytes tagging (pairsFrom 0 (column polygonSize index (now run)))) ≤ length (now out)) ⌝ }
+    ensures { λ r. ⌜ Wrote (now (out .entry)) at (taggingBytes tagging (pairsFrom 0 (column polygonSize index (now (run .entry))))) (now (out .exit)) r ⌝ }
 {
-    if no_surfaces(run) {
+    if no_pairs(run, index) {
         return at;
     }
-    let first = put_u4(out, at + 8, SURF);
-    let end = put_pairs(out, first, run);
+    let first = put_u4(out, at + 8, tagging);
+    let end = put_pairs(out, first, run, index);
     close_chunk(out, at, PTAG, end)
 }
 
-// The PTAG stands behind its POLS, into which its pairs are.
+// Each PTAG stands behind its POLS, into which its pairs are: the surfaces, and then the parts.
 fn put_run(out: &mut [u8], at: usize, run: &[u32], vertices: &[u32]) -> usize
     requires { ⌜ RunLent (now run) (now vertices) × (at + length (chunksBytes (runChunks (meshPolygons (now run) (now vertices)))) ≤ length (now out)) ⌝ }
     ensures { λ r. ⌜ Wrote (now (out .entry)) at (chunksBytes (runChunks (meshPolygons (now (run .entry)) (now (vertices .entry))))) (now (out .exit)) r ⌝ }
 {
-    let next = put_pols(out, at, run, vertices);
-    put_ptag(out, next, run)
+    let surfaces = put_pols(out, at, run, vertices);
+    let parts = put_ptag(out, surfaces, SURF, run, SURFACE_WORD);
+    put_ptag(out, parts, PART, run, PART_WORD)
 }
 
 // The longest runs of one kind, in the order of the table.

@@ -1,15 +1,15 @@
--- A run without a surface has no pairs; else the body is the type and the pairs, and its chunk is closed around it.
+-- A run whose numbers are all 0 has no pairs; else the body is the type and the pairs, and its chunk is closed around it.
 use Prim.Native.Nat.{ℕ, _+_}
 use mathlib.Core.Path.{sym, _∙_}
 use mathlib.Core.List.{List, [], _∷_, _++_}
 use borrow.Author.Needs.{needs}
 use denote.Ref.{now}
-use Rattle.format.specs.Bytes.{number, tagNumber, spelt}
+use Rattle.format.specs.Bytes.{number, tagNumber}
 use Rattle.format.specs.Mesh.{polygonSize}
 use Rattle.format.specs.Canonical.{bytes}
 use Rattle.mesh.specs.Lent.{column}
 use Rattle.mesh.specs.Polygons.{pairsFrom}
-use Rattle.write_runs.specs.Runs.{unlessNoBytes}
+use Rattle.write_runs.specs.Runs.{taggingBytes}
 use Rattle.output.proofs.PutSoFar.{wrote-none}
 use Rattle.output.proofs.Parts.{PartsLeft, begin, in-two, room, turn, end}
 use Rattle.output.proofs.Chunks.{BodyFirst, first-room, close-room, closed}
@@ -17,11 +17,14 @@ use Rattle.write_runs.proofs.Runs.{no-ptag, ptag, no-pairs, a-pair-ther
 use Rattle.write_runs.proofs.put_ptag.Statement.{statement}
 use Rattle.write_runs.proofs.put_ptag.Tie as tie
 
-abbrev surfaces : tie.Start → List ℕ
-surfaces s = column polygonSize 2 (now (s .args .run))
+abbrev numbers : tie.Start → List ℕ
+numbers s = column polygonSize (s .args .index) (now (s .args .run))
+
+abbrev type : tie.Start → List ℕ
+type s = bytes 4 (s .args .tagging)
 
 abbrev pairs : tie.Start → List ℕ
-pairs s = pairsFrom 0 (surfaces s)
+pairs s = pairsFrom 0 (numbers s)
 
 -- where the function began, seen from a test and from after a call
 abbrev start : tie.Else1 → tie.Start
@@ -31,27 +34,28 @@ abbrev at-type : tie.After-put-u4 → tie.Else1
 at-type u = u .before .before
 
 whole : (x : tie.Else1)
-    → BodyFirst (unlessNoBytes "PTAG" "SURF" (pairs (start x))) (tagNumber "PTAG") (spelt "SURF" ++ pairs (start x)) (now (start x .args .out)) (start x .args .at)
-whole x = ptag (pairs (start x)) (a-pair-there 0 (surfaces (start x)) (sym (x .before .no-surfaces .ensures) ∙ x .if1 .left)) (start x .pre .1)
+    → BodyFirst (taggingBytes (start x .args .tagging) (pairs (start x))) (tagNumber "PTAG") (type (start x) ++ pairs (start x)) (now (start x .args .out)) (start x .args .at)
+whole x = ptag (start x .args .tagging) (pairs (start x)) (a-pair-there 0 (numbers (start x)) (sym (x .before .no-pairs .ensures) ∙ x .if1 .left)) (start x .pre .2)
 
 -- the type and the pairs are put into the body
 opened : (x : tie.Else1)
-    → PartsLeft (spelt "SURF" ++ pairs (start x)) (spelt "SURF" ∷ pairs (start x) ∷ []) (now (start x .args .out)) (start x .args .at + 8) (now (start x .args .out)) (start x .args .at + 8)
-opened x = begin (in-two (spelt "SURF") (pairs (start x))) (first-room (whole x))
+    → PartsLeft (type (start x) ++ pairs (start x)) (type (start x) ∷ pairs (start x) ∷ []) (now (start x .args .out)) (start x .args .at + 8) (now (start x .args .out)) (start x .args .at + 8)
+opened x = begin (in-two (type (start x)) (pairs (start x))) (first-room (whole x))
 
 returns : tie.Need-returns
 returns c =
     let s = c .before .before .before .before in
-    rw (no-ptag (pairs s) (no-pairs 0 (surfaces s) (sym (c .before .no-surfaces .ensures) ∙ c .if1 .taken))) wrote-none
+    rw (no-ptag (s .args .tagging) (pairs s) (no-pairs 0 (numbers s) (sym (c .before .no-pairs .ensures) ∙ c .if1 .taken))) wrote-none
 
 put-u4-requires : tie.Need-put-u4-requires
+unfolding bytes
 put-u4-requires c κs = room (opened (c .before))
 
 put-pairs-requires : tie.Need-put-pairs-requires
 unfolding bytes
 put-pairs-requires c κs =
     let u = c .before .before .before in
-    (start (at-type u) .pre .0, room (turn (opened (at-type u)) (u .put-u4 .ensures)))
+    (start (at-type u) .pre .0, start (at-type u) .pre .1, room (turn (opened (at-type u)) (u .put-u4 .ensures)))
 
 close-chunk-requires : tie.Need-close-chunk-requires
 unfolding bytes

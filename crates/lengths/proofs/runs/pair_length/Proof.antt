@@ -1,4 +1,4 @@
--- A polygon without a surface has no pair; a pair is an index and two bytes.
+-- A polygon whose number is 0 has no pair; a pair is an index and two bytes.
 use Prim.Native.Nat.{ℕ, _+_, _-_}
 use mathlib.Core.Path.{_∙_, ap, sym}
 use native.Mathlib.Omega.{arith}
@@ -17,7 +17,7 @@ returns c = record { size-is = rw (eq-eqb _ _ (c .if1 .taken)); few = omega arit
 returns-2 : tie.Need-returns-2
 returns-2 c =
     let s = c .before .before .args in
-    record { size-is = ap (λ (n : ℕ). n + 2) (c .vx-length .ensures .size-is) ∙ sym (pair-parts (s .i) (s .surface) (c .before .if1 .left) ∙ ap (λ (n : ℕ). length (vxBytes (s .i)) + n) (length-bytes 2 (s .surface - 1))); few = omega (arith, c .vx-length .ensures .few) }
+    record { size-is = ap (λ (n : ℕ). n + 2) (c .vx-length .ensures .size-is) ∙ sym (pair-parts (s .i) (s .number) (c .before .if1 .left) ∙ ap (λ (n : ℕ). length (vxBytes (s .i)) + n) (length-bytes 2 (s .number - 1))); few = omega (arith, c .vx-length .ensures .few) }
 
 pub pair-length-spec : {M : Type 1} → statement M
 pair-length-spec = tie.close (tie.spec (λ c κs. search needs) (λ c. search needs) returns returns-2)

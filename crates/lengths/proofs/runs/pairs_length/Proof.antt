@@ -1,4 +1,4 @@
--- A walk over the surfaces of a run: the length of each pair is added to those before it.
+-- A walk over one word of a run's polygons: the length of each pair is added to those before it.
 use Prim.Native.Nat.{ℕ, _-_, _*_, _≤_}
 use mathlib.Core.Path.{refl}
 use mathlib.Core.List.{List}
@@ -16,15 +16,15 @@ use Rattle.lengths.proofs.runs.pairs_length.Statement.{statement}
 use Rattle.lengths.proofs.runs.pairs_length.Tie as tie
 
 -- `counted` keeps the number of a polygon from wrapping
-record PairsLeft (surfaces : List ℕ) (bytes i at : ℕ) (ss : List ℕ) : Type 0 where
+record PairsLeft (numbers : List ℕ) (bytes i at : ℕ) (ns : List ℕ) : Type 0 where
   counted : i ≤ at
-  adds : SizeSum (length (pairsFrom 0 surfaces)) bytes (length (pairsFrom i ss)) (2 * at)
+  adds : SizeSum (length (pairsFrom 0 numbers)) bytes (length (pairsFrom i ns)) (2 * at)
 
 abbrev Inv-loop : tie.InvT-loop
-Inv-loop run bytes₀ i₀ at₀ bytes i at = ColumnWalk run polygonSize 2 (PairsLeft (column polygonSize 2 run) bytes i at) at
+Inv-loop run index bytes₀ i₀ at₀ bytes i at = ColumnWalk run polygonSize index (PairsLeft (column polygonSize index run) bytes i at) at
 
 abbrev μ-loop : tie.MeasureT-loop
-μ-loop run bytes₀ i₀ at₀ bytes i at = length run - at
+μ-loop run index bytes₀ i₀ at₀ bytes i at = length run - at
 
 loop-holds : tie.Need-loop-holds Inv-loop μ-loop
 loop-holds c = begin (record { counted = omega arith; adds = sizes.begin })
@@ -33,7 +33,7 @@ loop-again : tie.Need-loop-again Inv-loop μ-loop
 loop-again c =
     let u = c .before .before in
     let w = u .before .loop .inv in
-    let h = here w (omega arith) (u .loop-test .taken) (c .before .surface .ensures) in
+    let h = here w (omega arith) (u .loop-test .taken) (c .before .word-at .ensures) in
     let pair = c .pair-length .ensures in
     turn w (omega arith) (u .loop-test .taken)
     (record { counted = omega (arith, h .counted); adds = sizes.turn (h .adds) (pairs-more _ _ _) (pair .size-is) (omega (arith, h .adds .few, pair .few)) })

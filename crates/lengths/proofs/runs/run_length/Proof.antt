@@ -1,4 +1,4 @@
--- A run is a POLS and, where it has pairs, a PTAG.
+-- A run is a POLS and, where it has pairs of surfaces or of parts, a PTAG of each.
 use mathlib.Core.Path.{sym}
 use native.Mathlib.Omega.{arith}
 use borrow.Author.Needs.{needs}
@@ -8,11 +8,17 @@ use Rattle.lengths.proofs.runs.run_length.Tie as tie
 
 returns : tie.Need-returns
 returns c =
-    let u = c .before .before in
-    let p = u .before .before in
+    let surfaced = c .before in
+    let listed = surfaced .before in
+    let vertices = listed .before in
+    let parts = vertices .before in
+    let surfaces = parts .before in
+    let s = surfaces .before .before .before in
     record {
-      size-is = rw (c .before .unless-empty .ensures .size-is, c .unless-empty2 .ensures .size-is, u .vertices-length .ensures .size-is, u .before .pairs-length .ensures .size-is) (sym (run-size _ _ (p .before .before .pre .0 .agree) (p .before .before .pre .1)));
-      few = omega (arith, c .before .unless-empty .ensures .few, c .unless-empty2 .ensures .few, u .vertices-length .ensures .few, u .before .pairs-length .ensures .few, p .before .before .pre .1);
+      size-is =
+          rw (listed .unless-empty .ensures .size-is, surfaced .unless-empty2 .ensures .size-is, c .unless-empty3 .ensures .size-is, vertices .vertices-length .ensures .size-is, surfaces .pairs-length .ensures .size-is, parts .pairs-length2 .ensures .size-is)
+          (sym (run-size _ _ (s .pre .0 .agree) (s .pre .1)));
+      few = omega (arith, listed .unless-empty .ensures .few, surfaced .unless-empty2 .ensures .few, c .unless-empty3 .ensures .few, vertices .vertices-length .ensures .few, surfaces .pairs-length .ensures .few, parts .pairs-length2 .ensures .few, s .pre .1);
     }
 
 pub run-length-spec : {M : Type 1} → statement M
@@ -20,11 +26,15 @@ run-length-spec =
     tie.close
     (tie.spec
     (λ c κs. search needs)
+    (λ c κs. search needs)
     (λ c. search needs)
     (λ c. search needs)
     (λ c κs. search needs)
     (λ c. search needs)
     (λ c κs. search needs)
+    (λ c. search needs)
+    (λ c κs. search needs)
+    (λ c. search needs)
     (λ c. search needs)
     (λ c κs. search needs)
     (λ c. search needs)

@@ -10,10 +10,10 @@ use Rattle.load_taggings.proofs.tagging.put_pairs.Statement.{statement}
 use Rattle.load_taggings.proofs.tagging.put_pairs.Tie as tie
 
 abbrev Inv-loop : tie.InvT-loop
-Inv-loop s polygons names table₀ i at₀ table at = TagsStored s at₀ polygons names table₀ i at table
+Inv-loop s polygons names table₀ i index at₀ table at = TagsStored s at₀ polygons names table₀ i index at table
 
 abbrev μ-loop : tie.MeasureT-loop
-μ-loop s polygons names table₀ i at₀ table at = length s - at
+μ-loop s polygons names table₀ i index at₀ table at = length s - at
 
 loop-holds : tie.Need-loop-holds Inv-loop μ-loop
 loop-holds c = tags-begin (c .before .before .pre)

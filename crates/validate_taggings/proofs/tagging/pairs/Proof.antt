@@ -4,21 +4,22 @@ use Prim.Native.Nat.{_-_}
 use native.Mathlib.Omega.{arith}
 use lib.ListN.{length, drop}
 use borrow.Author.Needs.{needs}
-use Rattle.format.specs.Contracts.{keep, nothing, taggingPairs}
-use Rattle.format.specs.Bodies.{tagging, pair}
-use Rattle.format.proofs.Entries.{ManyLoop, many-begin, many-turn, many-stop, many-end}
+use Rattle.format.specs.Items.{many}
+use Rattle.format.specs.Contracts.{keep, nothing}
+use Rattle.format.specs.Bodies.{pair}
+use Rattle.format.proofs.Entries.{ManyLoop, many-alone, many-turn, many-stop, many-end}
 use Rattle.format.proofs.ReaderSteps.{used-up, faulty}
 use Rattle.validate_taggings.proofs.tagging.pairs.Statement.{statement}
 use Rattle.validate_taggings.proofs.tagging.pairs.Tie as tie
 
 abbrev Inv-loop : tie.InvT-loop
-Inv-loop s polygons names at₀ at = ManyLoop (keep nothing (taggingPairs polygons names at₀ (drop at₀ s))) (pair polygons names) s at (λ ps. tt)
+Inv-loop s polygons names at₀ at = ManyLoop (keep nothing (many (pair polygons names) at₀ (drop at₀ s))) (pair polygons names) s at (λ ps. tt)
 
 abbrev μ-loop : tie.MeasureT-loop
 μ-loop s polygons names at₀ at = length s - at
 
 loop-holds : tie.Need-loop-holds Inv-loop μ-loop
-loop-holds c = many-begin (tagging _) nothing (λ ps. tt) (λ ps. refl)
+loop-holds c = many-alone nothing (λ ps. tt) (λ ps. refl)
 
 returns : tie.Need-returns Inv-loop μ-loop
 returns c =

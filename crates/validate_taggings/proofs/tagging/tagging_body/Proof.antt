@@ -1,11 +1,10 @@
 -- The type is read, and pairs follow it, or bytes that are not judged.
 use mathlib.Core.List.{[]}
-use borrow.Author.Tests.{ne-eqb}
 use borrow.Author.Needs.{needs}
 use Rattle.format.specs.Bodies.{tagging, taggingBody}
 use Rattle.format.specs.Contracts.{nothing}
 use Rattle.format.specs.Bytes.{number}
-use Rattle.format.proofs.ReaderSteps.{off, faulty, judged-on, rest-unjudged}
+use Rattle.format.proofs.ReaderSteps.{off, faulty, judged-on, judged-as, rest-unjudged}
 use Rattle.validate_taggings.proofs.tagging.tagging_body.Statement.{statement}
 use Rattle.validate_taggings.proofs.tagging.tagging_body.Tie as tie
 
@@ -18,14 +17,14 @@ unfolding taggingBody number
 returns-2 c =
     let u = c .before .before .before in
     let w = rw (u .t .given .1) at (u .before .before .u4 .ensures) in
-    judged-on _ (w .says) (rw (c .before .if1 .taken) (c .pairs .ensures))
+    judged-on _ (w .says) (rw (c .before .if1 .taken) (judged-as (tagging _) (c .pairs .ensures)))
 
 returns-3 : tie.Need-returns-3
 unfolding taggingBody number
 returns-3 c =
     let u = c .before .before in
     let w = rw (u .t .given .1) at (u .before .before .u4 .ensures) in
-    judged-on _ (w .says) (rw (ne-eqb _ _ (c .if1 .left)) (rest-unjudged [] (tagging _) nothing))
+    judged-on _ (w .says) (rw (c .if1 .left) (rest-unjudged [] (tagging _) nothing))
 
 pub tagging-body-spec : {M : Type 1} → statement M
 tagging-body-spec =

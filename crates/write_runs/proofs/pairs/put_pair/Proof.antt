@@ -1,4 +1,4 @@
--- A polygon without a surface has no pair; else its index is put, and its tag behind it.
+-- A polygon whose number is 0 has no pair; else its index is put, and its tag behind it.
 use Prim.Native.Nat.{_-_}
 use native.Mathlib.Omega.{arith}
 use borrow.Author.Needs.{needs}
@@ -9,20 +9,20 @@ use Rattle.write_runs.proofs.pairs.put_pair.Statement.{statement}
 use Rattle.write_runs.proofs.pairs.put_pair.Tie as tie
 
 returns : tie.Need-returns
-returns c = rw (no-pair (c .before .before .args .i) (c .before .before .args .surface) (c .if1 .taken)) wrote-none
+returns c = rw (no-pair (c .before .before .args .i) (c .before .before .args .number) (c .if1 .taken)) wrote-none
 
 put-vx-requires : tie.Need-put-vx-requires
 put-vx-requires c κs =
     let s = c .before .before .before in
     let some = c .before .if1 .left in
-    (s .pre .0, omega (arith, pair-parts (s .args .i) (s .args .surface) some, length-bytes 2 (s .args .surface - 1), s .pre .1))
+    (s .pre .0, omega (arith, pair-parts (s .args .i) (s .args .number) some, length-bytes 2 (s .args .number - 1), s .pre .1))
 
 put-u2-requires : tie.Need-put-u2-requires
 put-u2-requires c κs =
     let u = c .before .before .before in
     let s = u .before .before .before .before in
     let some = u .before .before .if1 .left in
-    omega (arith, pair-parts (s .args .i) (s .args .surface) some, length-bytes 2 (s .args .surface - 1), s .pre .1, u .put-vx .ensures .next-is, u .put-vx .ensures .kept)
+    omega (arith, pair-parts (s .args .i) (s .args .number) some, length-bytes 2 (s .args .number - 1), s .pre .1, u .put-vx .ensures .next-is, u .put-vx .ensures .kept)
 
 returns-2 : tie.Need-returns-2
 returns-2 c =
@@ -30,7 +30,7 @@ returns-2 c =
     let u = v .before .before .before .before in
     let s = u .before .before .before .before in
     let some = u .before .before .if1 .left in
-    rw (a-pair (s .args .i) (s .args .surface) some) (then-wrote (u .put-vx .ensures) (v .put-u2 .ensures) (omega (arith, pair-parts (s .args .i) (s .args .surface) some, length-bytes 2 (s .args .surface - 1), s .pre .1)))
+    rw (a-pair (s .args .i) (s .args .number) some) (then-wrote (u .put-vx .ensures) (v .put-u2 .ensures) (omega (arith, pair-parts (s .args .i) (s .args .number) some, length-bytes 2 (s .args .number - 1), s .pre .1)))
 
 pub put-pair-spec : {M : Type 1} → statement M
 put-pair-spec =
