@@ -1,5 +1,6 @@
 /*
- * Prints the panels of a LightWave object file by the board that each is cut from:
+ * Prints the panels of a LightWave object file by the board that each is cut from,
+ * and by the part of the figure that it belongs to, where it belongs to one:
  *
  *   gcc -std=c99 boards.c $(pkg-config --cflags --libs lwo) -o boards
  *   ./boards panel.lwo
@@ -24,21 +25,33 @@ typedef struct Mesh {
     uint32_t *records;
 } Mesh;
 
-/* What is cut from one board. */
+/* A polygon: its words in the table, and its vertices. */
+typedef struct Panel {
+    const uint32_t *words;
+    const uint32_t *vertices;
+} Panel;
+
+/* What is cut from one board, for one part. */
 typedef struct Board {
     unsigned long faces, patches, vertices;
     float lowest[LWO_POINT_WORDS], highest[LWO_POINT_WORDS];
 } Board;
 
-/* Memory for a table; one word more, because malloc may give NULL for none. */
-static void *table(uint64_t words)
+/* Memory for so many things, and for one more, since calloc may give NULL for
+   none. */
+static void *memory(size_t count, size_t size)
 {
-    void *memory = calloc((size_t)words + 1, sizeof(uint32_t));
-    if (memory == NULL) {
+    void *bytes = calloc(count + 1, size);
+    if (bytes == NULL) {
         fputs("boards: there is not enough memory\n", stderr);
         exit(1);
     }
-    return memory;
+    return bytes;
+}
+
+static void *table(uint64_t words)
+{
+    return memory((size_t)words, sizeof(uint32_t));
 }
 
 /* The bytes of a file, up to one more than the library reads. */
@@ -106,32 +119,70 @@ static void add_vertex(Board *board, const Mesh *mesh, uint32_t point)
     board->vertices += 1;
 }
 
-/* Goes through the polygons; their vertices are joined, so the next polygon's
-   begin where this one's end. A surface number is 0 for none, so it is the place
-   of its board in a list that has that one first. */
-static void add_polygons(Board *boards, const Mesh *mesh)
+static void add_panel(Board *board, const Mesh *mesh, const Panel *panel)
 {
-    const uint32_t *vertex = mesh->vertices;
-    for (uint64_t number = 0; number < mesh->counts.polygons; number += 1) {
-        const uint32_t *polygon = &mesh->polygons[number * LWO_POLYGON_WORDS];
-        Board *board = &boards[polygon[LWO_POLYGON_SURFACE]];
-        if (polygon[LWO_POLYGON_KIND] == LWO_FACE) {
-            board->faces += 1;
-        } else {
-            board->patches += 1;
-        }
-        for (uint32_t i = 0; i < polygon[LWO_POLYGON_VERTICES]; i += 1) {
-            add_vertex(board, mesh, *vertex);
-            vertex += 1;
-        }
+    if (panel->words[LWO_POLYGON_KIND] == LWO_FACE) {
+        board->faces += 1;
+    } else {
+        board->patches += 1;
+    }
+    for (uint32_t i = 0; i < panel->words[LWO_POLYGON_VERTICES]; i += 1) {
+        add_vertex(board, mesh, panel->vertices[i]);
     }
 }
 
-/* A name's bytes may be any but zero, so what is not plain text is written out. */
-static void print_name(const uint8_t *bytes, uint32_t length)
+/* All polygons' vertices are joined, so the next one's begin where this one's
+   end. */
+static Panel *panels_of(const Mesh *mesh)
 {
+    Panel *panels = memory((size_t)mesh->counts.polygons, sizeof *panels);
+    const uint32_t *vertices = mesh->vertices;
+    for (uint64_t number = 0; number < mesh->counts.polygons; number += 1) {
+        panels[number].words = &mesh->polygons[number * LWO_POLYGON_WORDS];
+        panels[number].vertices = vertices;
+        vertices += panels[number].words[LWO_POLYGON_VERTICES];
+    }
+    return panels;
+}
+
+/* The numbers of names count from 1, and 0 is for none. None comes last here: one
+   less than 0 is the highest number. */
+static int compare_names(uint32_t one, uint32_t other)
+{
+    return (one - 1 > other - 1) - (one - 1 < other - 1);
+}
+
+/* By their parts, and those of one part by their boards. */
+static int compare_panels(const void *one, const void *other)
+{
+    const uint32_t *words = ((const Panel *)one)->words;
+    const uint32_t *others = ((const Panel *)other)->words;
+    int by_part = compare_names(words[LWO_POLYGON_PART], others[LWO_POLYGON_PART]);
+    if (by_part != 0) {
+        return by_part;
+    }
+    return compare_names(words[LWO_POLYGON_SURFACE], others[LWO_POLYGON_SURFACE]);
+}
+
+/* Where each name's bytes begin: they are all joined, without zero bytes between. */
+static const uint8_t **name_starts(const Mesh *mesh)
+{
+    const uint8_t **starts = memory((size_t)mesh->counts.names, sizeof *starts);
+    const uint8_t *bytes = mesh->name_bytes;
+    for (uint64_t name = 0; name < mesh->counts.names; name += 1) {
+        starts[name] = bytes;
+        bytes += mesh->names[name];
+    }
+    return starts;
+}
+
+/* The name of this number. Its bytes may be any but zero, so what is not plain text
+   is written out. */
+static void print_name(const Mesh *mesh, const uint8_t **starts, uint32_t number)
+{
+    const uint8_t *bytes = starts[number - 1];
     putchar('"');
-    for (uint32_t i = 0; i < length; i += 1) {
+    for (uint32_t i = 0; i < mesh->names[number - 1]; i += 1) {
         if (bytes[i] == '\\') {
             fputs("\\\\", stdout);
         } else if (bytes[i] < 32 || bytes[i] > 126) {
@@ -143,39 +194,52 @@ static void print_name(const uint8_t *bytes, uint32_t length)
     putchar('"');
 }
 
+/* The board that a panel is cut from, and its part, if it belongs to one. */
+static void print_names(const Mesh *mesh, const uint8_t **starts,
+                        const Panel *panel)
+{
+    uint32_t surface = panel->words[LWO_POLYGON_SURFACE];
+    uint32_t part = panel->words[LWO_POLYGON_PART];
+    if (surface == 0) {
+        fputs("no surface", stdout);
+    } else {
+        print_name(mesh, starts, surface);
+    }
+    if (part != 0) {
+        fputs(", part ", stdout);
+        print_name(mesh, starts, part);
+    }
+}
+
 /* Coordinates are in metres. */
 static void print_board(const Board *board)
 {
-    printf(": %lu faces, %lu patches, %lu vertices", board->faces, board->patches,
-           board->vertices);
-    if (board->vertices > 0) {
-        printf(", %.3f x %.3f x %.3f mm",
-               ((double)board->highest[0] - (double)board->lowest[0]) * 1000,
-               ((double)board->highest[1] - (double)board->lowest[1]) * 1000,
-               ((double)board->highest[2] - (double)board->lowest[2]) * 1000);
-    }
-    putchar('\n');
+    printf(": %lu faces, %lu patches, %lu vertices, %.3f x %.3f x %.3f mm\n",
+           board->faces, board->patches, board->vertices,
+           ((double)board->highest[0] - (double)board->lowest[0]) * 1000,
+           ((double)board->highest[1] - (double)board->lowest[1]) * 1000,
+           ((double)board->highest[2] - (double)board->lowest[2]) * 1000);
 }
 
+/* A line for all panels of one part and one board. */
 static void print_boards(const Mesh *mesh)
 {
-    Board *boards = calloc((size_t)mesh->counts.names + 1, sizeof *boards);
-    const uint8_t *bytes = mesh->name_bytes;
-    if (boards == NULL) {
-        fputs("boards: there is not enough memory\n", stderr);
-        exit(1);
+    Panel *panels = panels_of(mesh);
+    const uint8_t **starts = name_starts(mesh);
+    size_t count = (size_t)mesh->counts.polygons, next = 0;
+    qsort(panels, count, sizeof *panels, compare_panels);
+    while (next < count) {
+        const Panel *first = &panels[next];
+        Board board = {0};
+        while (next < count && compare_panels(first, &panels[next]) == 0) {
+            add_panel(&board, mesh, &panels[next]);
+            next += 1;
+        }
+        print_names(mesh, starts, first);
+        print_board(&board);
     }
-    add_polygons(boards, mesh);
-    for (uint64_t name = 0; name < mesh->counts.names; name += 1) {
-        print_name(bytes, mesh->names[name]);
-        print_board(&boards[name + 1]);
-        bytes += mesh->names[name];
-    }
-    if (boards[0].vertices > 0) {
-        fputs("no surface", stdout);
-        print_board(&boards[0]);
-    }
-    free(boards);
+    free(starts);
+    free(panels);
 }
 
 int main(int count, char **words)

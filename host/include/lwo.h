@@ -2,10 +2,10 @@
  * Reads LightWave object files, LWOB and LWO2, into lent tables, and writes a
  * mesh as one canonical LWO2 file.
  *
- * Read are points, faces, patches, names and base surface values. The layers of an
- * LWO2 file are judged and not kept: its mesh has the points and polygons of all of
- * them. Not read are curves, vertex maps, clips, envelopes, and textures beyond
- * their nesting.
+ * Read are points, faces, patches, names of surfaces and of the parts of a figure,
+ * and base surface values. The layers of an LWO2 file are judged and not kept: its
+ * mesh has the points and polygons of all of them. Not read are curves, vertex
+ * maps, clips, envelopes, and textures beyond their nesting.
  *
  * Both functions answer whatever bytes and numbers they are lent, and keep
  * nothing after they have returned. They allocate no memory and have no state,
@@ -25,10 +25,14 @@
  *
  *   points      3 words a point: x, y, z, each the bits of a float, in file
  *               order
- *   polygons    3 words a polygon:
+ *   polygons    4 words a polygon:
  *                 0  kind: 1 face, 2 patch
  *                 1  vertex count: 1 to 1,023
  *                 2  surface number: 0 none, else 1 for the first name
+ *                 3  part number: 0 none, else 1 for the first name
+ *               In LWO2 the surface is the tag that a PTAG of type SURF gives the
+ *               polygon, and the part, as "head" or "saddle", that of a PTAG of
+ *               type PART; of several the last one stands. LWOB has no parts.
  *   vertices    1 word a vertex: all polygons' point numbers, joined, counted
  *               from the file's first point, which is 0
  *   names       1 word a name: its length in bytes, at most 255
@@ -78,11 +82,12 @@ extern "C" {
 
 /*
  * The version of this header and of the library beside it. A change of the second
- * number may change the words of a table.
+ * number may change the words of a table: a polygon has four since 0.2.0, and had
+ * three before.
  */
-#define LWO_VERSION "0.1.0"
+#define LWO_VERSION "0.2.0"
 #define LWO_VERSION_MAJOR 0
-#define LWO_VERSION_MINOR 1
+#define LWO_VERSION_MINOR 2
 #define LWO_VERSION_PATCH 0
 #define LWO_VERSION_NUMBER                                                     \
     (LWO_VERSION_MAJOR * 65536 + LWO_VERSION_MINOR * 256 + LWO_VERSION_PATCH)
@@ -104,13 +109,14 @@ uint32_t lwo_version(void);
 
 /* Words of an entry. */
 #define LWO_POINT_WORDS 3
-#define LWO_POLYGON_WORDS 3
+#define LWO_POLYGON_WORDS 4
 #define LWO_RECORD_WORDS 10
 
 /* Where in a polygon's entry its words stand. */
 #define LWO_POLYGON_KIND 0
 #define LWO_POLYGON_VERTICES 1
 #define LWO_POLYGON_SURFACE 2
+#define LWO_POLYGON_PART 3
 
 /* Kinds of polygon. */
 #define LWO_FACE 1
@@ -151,7 +157,8 @@ uint32_t lwo_version(void);
                                 1 to 1,023 */
 #define LWO_VERTEX_NUMBER 9  /* vertex number not below the latest point list's
                                 length */
-#define LWO_SURFACE 10       /* surface number or tag names nothing */
+#define LWO_SURFACE 10       /* surface number, or tag of a surface or part, names
+                                nothing */
 #define LWO_POLYGON_NUMBER 11 /* polygon number not below the latest POLS's
                                 count */
 #define LWO_POLYGON_TYPE 12  /* POLS type neither FACE nor PTCH */
@@ -215,12 +222,17 @@ LwoAnswer lwo_read(const uint8_t *file, size_t file_length,
  * every other number all of the output is unchanged. What is written is read back
  * by lwo_read as the same mesh, to the bit.
  *
+ * The file has TAGS and PNTS; then for each longest run of polygons of one kind a
+ * POLS, a PTAG of type SURF if some of them have a surface, and a PTAG of type PART
+ * if some have a part; then a SURF for each name whose record is defined. Empty
+ * chunks are left out.
+ *
  * Not a mesh (17) is: a table with part of an entry or over 16,777,216 entries;
  * counts that don't agree; a kind, vertex count (1 to 1,023), vertex number,
- * defined or sides number outside its range; a surface above the name count or
- * 65,536; a name over 255 bytes, with a zero byte, or equal to an earlier one; a
- * float not finite; an undefined record with other than the missing values, by
- * bits (colour 1.0, 1.0, 1.0, diffuse 1.0, the other levels 0.0, sides 1).
+ * defined or sides number outside its range; a surface or part above the name
+ * count or 65,536; a name over 255 bytes, with a zero byte, or equal to an earlier
+ * one; a float not finite; an undefined record with other than the missing values,
+ * by bits (colour 1.0, 1.0, 1.0, diffuse 1.0, the other levels 0.0, sides 1).
  */
 LwoWritten lwo_write(const uint32_t *points, size_t points_length,
                      const uint32_t *polygons, size_t polygons_length,

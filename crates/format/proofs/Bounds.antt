@@ -133,14 +133,15 @@ pub tags-allowed : (points names : ℕ) (p : Polygon) → p .surface ≤ names �
     → goodPolygon points names p ≡ (goodPolygon points names (polygonOf (p .kind) 0 0 (p .vertices)) && (leb (p .surface) 65536 && leb (p .partName) 65536))
 unfolding goodPolygon every
 tags-allowed points names p surface part =
-    rw (le-leb (p .surface) names surface, le-leb (p .partName) names part, le-leb 0 names (omega arith), and-true (leb (p .partName) 65536))
-    (by (between FACE PATCH (p .kind)) (between 1 lwo2VertexLimit (length (p .vertices))) (all (λ v. ltb v points) (p .vertices)) _)
+    by (between FACE PATCH (p .kind)) (between 1 lwo2VertexLimit (length (p .vertices))) (all (λ v. ltb v points) (p .vertices)) (leb (p .surface) 65536) (leb (p .partName) 65536)
+    (le-leb (p .surface) names surface) (le-leb (p .partName) names part) (le-leb 0 names (omega arith))
   where
-    by : (a b c d : Bool) → (a && (b && (c && d))) ≡ ((a && (b && (c && true))) && d)
-    by true true true d = refl
-    by true true false d = refl
-    by true false c d = refl
-    by false b c d = refl
+    by : (a b c d e : Bool) {f g h : Bool} → f ≡ true → g ≡ true → h ≡ true
+        → every (a ∷ b ∷ c ∷ (f && d) ∷ (g && e) ∷ []) ≡ (every (a ∷ b ∷ c ∷ (h && true) ∷ (h && true) ∷ []) && (d && e))
+    by true true true d e f g h = rw (f, g, h, and-true e)
+    by true true false d e f g h = refl
+    by true false c d e f g h = refl
+    by false b c d e f g h = refl
 
 -- ---- "Shortest VX": the last index of two bytes, and the first of four
 

@@ -80,6 +80,11 @@ pub data EachBody (B : List ℕ → Type 0) : Chunks → Type 0 where
   no-chunk : EachBody B broken
   more : {t : ℕ} {body : List ℕ} {rest : Chunks} → B body → EachBody B rest → EachBody B (chunk t body rest)
 
+pub any-body : (cs : Chunks) → EachBody (λ body. Unit {0}) cs
+any-body finished = at-end
+any-body broken = no-chunk
+any-body (chunk t body rest) = more tt (any-body rest)
+
 module _ (kind : Kind) (P : Before → Part → Type 0) (B : List ℕ → Type 0) (one : (b : Before) (t : ℕ) (body : List ℕ) (part : Part) → B body → judge kind b t body ≡ fine part → P b part) where
   pub walk-each : (b : Before) (place : ℕ) {cs : Chunks} → EachBody B cs → (parts : List Part) → walkParts kind b place cs ≡ fine parts → EachPart P b parts
   walk-each b place at-end parts e = rw (← same-fine (sym (parts-finished kind b place) ∙ e)) no-more

@@ -50,6 +50,12 @@ unfolding all
 all-and p q [] e₁ e₂ = refl
 all-and p q (x ∷ xs) e₁ e₂ = rw (all-first p x xs e₁, all-first q x xs e₂) (all-and p q xs (all-rest p x xs e₁) (all-rest q x xs e₂))
 
+-- of what is made of each element
+pub all-map : {A C : Type 0} (p : C → Bool) (f : A → C) (xs : List A) → all (λ x. p (f x)) xs ≡ true → all p (map f xs) ≡ true
+unfolding all
+all-map p f [] e = refl
+all-map p f (x ∷ xs) e = both (all-first (λ x. p (f x)) x xs e) (all-map p f xs (all-rest (λ x. p (f x)) x xs e))
+
 pub all-append : {A : Type 0} (p : A → Bool) (xs ys : List A) → all p (xs ++ ys) ≡ true → (all p xs ≡ true) × (all p ys ≡ true)
 unfolding all
 all-append p [] ys e = (refl, e)

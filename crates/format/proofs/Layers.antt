@@ -12,16 +12,15 @@ use Rattle.format.specs.declared.Kind.the-variants.{LWOB, LWO2}
 use Rattle.format.specs.declared.Fault.the-variants.{OutOfOrder, WrongLength, ItemCut, StringOpen, NotFinite}
 use Rattle.format.specs.Bytes.{tagNumber, number, finite, all, sum, joined}
 use Rattle.format.specs.Items.{fine, fault, _andThen_, _>>=_, _or_unless_, whole, upTo, item, uint, float, toZero, string}
-use Rattle.format.specs.Chunks.{Chunks, finished, broken, chunk}
+use Rattle.format.specs.Chunks.{Chunks}
 use Rattle.format.specs.Mesh.{Polygon}
 use Rattle.format.specs.Bodies.{Part, pointList, nameList, polygonList, tagging, surface, layer, skippedChunk, point, layerBody}
 use Rattle.format.specs.Rules.{Before, after, there, when_read_, unlistedTag, judge, added, pointsOf, namesOf, surfacesOf, polygonsIn, meshOf}
 use Rattle.format.specs.Contracts.{walkParts}
 use Rattle.format.specs.Worked.{digit, pairs, hex}
 use Rattle.format.proofs.Facts.{impossible, all-first, all-rest}
-use Rattle.format.proofs.ChunkWalk.{EachPart, EachBody, walk-each}
+use Rattle.format.proofs.ChunkWalk.{EachPart, any-body, walk-each}
 use Rattle.format.proofs.ChunkWalk.EachPart.{no-more, one-more}
-use Rattle.format.proofs.ChunkWalk.EachBody.{at-end, no-chunk, more}
 use Rattle.format.proofs.PartByTag.{always}
 
 -- ---- the chunk
@@ -139,11 +138,6 @@ chunk-in-order kind b t body part j =
       of-skipped = tt;
     })
     .each body part j
-
-any-body : (cs : Chunks) → EachBody (λ body. Unit {0}) cs
-any-body finished = at-end
-any-body broken = no-chunk
-any-body (chunk t body rest) = more tt (any-body rest)
 
 walk-in-order : (kind : Kind) (b : Before) (place : ℕ) (cs : Chunks) (parts : List Part) → walkParts kind b place cs ≡ fine parts → EachPart InOrder b parts
 walk-in-order kind b place cs parts e = walk-each kind InOrder _ (λ b t body part has j. chunk-in-order kind b t body part j) b place (any-body cs) parts e

@@ -24,3 +24,4 @@ pub mod SizeBound
 pub mod Layers
 pub mod LongIndices
 pub mod PartNames
+pub mod OldKind

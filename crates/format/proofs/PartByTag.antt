@@ -1,22 +1,22 @@
 -- Which part a chunk is that was judged fine, by its tag: each body ends by giving one sort of part, and each tag has one body.
 use mathlib.Core.Path.{_≡_, refl, ap, subst}
-use mathlib.Core.List.{List}
+use mathlib.Core.List.{List, [], _∷_}
 use mathlib.Core.Bool.{Bool, true, false, not, and-eq-true-iff}
 use mathlib.Core.Option.{Option, none, some}
-use Prim.Native.Nat.{ℕ}
+use Prim.Native.Nat.{ℕ, zero, suc}
 use lib.ListN.{length}
 use borrow.Author.Tests.{eqb-true}
 use Rattle.format.specs.declared.Kind.{Kind}
 use Rattle.format.specs.declared.Kind.the-variants.{LWOB, LWO2}
 use Rattle.format.specs.declared.Fault.the-variants.{OutOfOrder, WrongLength}
-use Rattle.format.specs.Bytes.{if_then_else_, _is_, number, empty}
-use Rattle.format.specs.Items.{Verdict, fine, fault, Got, Reader, _>>=_, _andThen_, give, whole}
+use Rattle.format.specs.Bytes.{if_then_else_, _is_, number, all, empty}
+use Rattle.format.specs.Items.{Verdict, fine, fault, Got, Reader, _>>=_, give, whole, upTo, many}
 use Rattle.format.specs.Chunks.{headerOf, ofLength}
 use Rattle.format.specs.Mesh.{Point, Polygon, Name}
 use Rattle.format.specs.Bodies.{Part, SurfaceChunk, pointList, nameList, polygonList, tagging, surface, layer, skippedChunk, pointsBody, namesBody, layerBody, facesBody, patchesBody, polygonsBody, taggingBody, surfaceBody}
 use Rattle.format.specs.Rules.{Before, there, count, when_read_, judge}
 use Rattle.format.specs.Contracts.{namesTag}
-use Rattle.format.proofs.Facts.{impossible}
+use Rattle.format.proofs.Facts.{both, impossible}
 use Rattle.format.proofs.ListedTags.{judge-cases}
 use Rattle.format.proofs.Verdicts.{then-fine, chosen, same-fine}
 
@@ -26,16 +26,18 @@ pub record Makes {A : Type 0} (P : A → Type 0) (r : Reader A) : Type 0 where
   pub each : (at : ℕ) (b : List ℕ) (g : Got A) → r at b ≡ fine g → P (g .value)
 
 module _ {A : Type 0} (P : A → Type 0) where
-  makes-give : (x : A) → P x → Makes P (give x)
+  pub makes-give : (x : A) → P x → Makes P (give x)
   makes-give x p = record { each = λ at b g e. let same : record { value = x; next = at; left = b } ≡ g = cc in subst P (ap (λ y. y .value) same) p }
 
-  makes-then : {B : Type 0} (r : Reader B) (k : B → Reader A) → ((x : B) → Makes P (k x)) → Makes P (r >>= k)
-  unfolding _>>=_ _andThen_
-  makes-then r k later = record { each = λ at b g e. by (r at b) g e }
-    where
-      by : (v : Verdict (Got _)) (g : Got A) → (v andThen λ x. k (x .value) (x .next) (x .left)) ≡ fine g → P (g .value)
-      by (fine x) g e = later (x .value) .each (x .next) (x .left) g e
-      by (fault why p) g e = impossible cc
+  -- by what is true of what was read first
+  pub makes-on : {B : Type 0} {Q : B → Type 0} {r : Reader B} (k : B → Reader A) → Makes Q r → ((x : B) → Q x → Makes P (k x)) → Makes P (r >>= k)
+  unfolding _>>=_
+  makes-on {r = r} k first later = record {
+    each = λ at b g e. let x = then-fine (r at b) _ e in later (x .0 .value) (first .each at b (x .0) (x .1)) .each (x .0 .next) (x .0 .left) g (x .2);
+  }
+
+  pub makes-then : {B : Type 0} (r : Reader B) (k : B → Reader A) → ((x : B) → Makes P (k x)) → Makes P (r >>= k)
+  makes-then {B} r k later = makes-on {Q = λ (x : B). Unit {0}} k (record { each = λ at b g e. tt }) (λ x any. later x)
 
   makes-length : (width : ℕ) (ok : ℕ → Bool) {r : Reader A} → Makes P r → Makes P (ofLength width ok r)
   unfolding ofLength
@@ -44,6 +46,17 @@ module _ {A : Type 0} (P : A → Type 0) where
       by : (at : ℕ) (b : List ℕ) (g : Got A) (t : Bool) → (if t then r at b else fault WrongLength (headerOf width at)) ≡ fine g → P (g .value)
       by at b g true e = w .each at b g e
       by at b g false e = impossible cc
+
+-- of each entry, as long as the body lasts
+pub makes-many : {A : Type 0} (p : A → Bool) {r : Reader A} → Makes (λ x. p x ≡ true) r → Makes (λ xs. all p xs ≡ true) (many r)
+unfolding many upTo all
+makes-many {A} p {r} one = record { each = λ at b g e. up (length b) at b g e }
+  where
+    up : (n at : ℕ) (b : List ℕ) (g : Got (List A)) → upTo n r at b ≡ fine g → all p (g .value) ≡ true
+    up zero at b g e = makes-give (λ xs. all p xs ≡ true) [] refl .each at b g e
+    up (suc n) at [] g e = makes-give (λ xs. all p xs ≡ true) [] refl .each at [] g e
+    up (suc n) at (c ∷ b) g e =
+        makes-on _ _ one (λ x px. makes-on _ _ (record { each = up n }) (λ xs pxs. makes-give (λ xs. all p xs ≡ true) (x ∷ xs) (both px pxs))) .each at (c ∷ b) g e
 
 -- ---- the bodies: what is true of each part that they make
 

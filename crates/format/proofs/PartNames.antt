@@ -35,7 +35,7 @@ module _ (polygonCount nameCount at : ℕ) (rest : List ℕ) where
 
 -- "with the same checks and numbers 10 and 11": where there is one polygon and one name, a pair, none, the second polygon, the second name, a polygon and a tag
 -- that are cut, and a polygon in the long form; and a type that is near
-pub taggings-judged : map (λ s. whole 0 (taggingBody 1 1) 8 (hex s))
+pub part-pairs-judged : map (λ s. whole 0 (taggingBody 1 1) 8 (hex s))
     ("5041525400000000" ∷ "50415254" ∷ "5041525400010000" ∷ "5041525400000001" ∷ "5041525400" ∷ "50415254000000" ∷ "50415254ff0000000000" ∷ "5041525500010001" ∷ [])
     ≡ fine (tagging (tagNumber "PART") ((0, 1) ∷ []))
     ∷ fine (tagging (tagNumber "PART") [])
@@ -47,7 +47,7 @@ pub taggings-judged : map (λ s. whole 0 (taggingBody 1 1) 8 (hex s))
     ∷ fine (tagging (tagNumber "PARU") [])
     ∷ []
 unfolding digit pairs hex number all joined _andThen_ _>>=_ _or_unless_ whole upTo many item uint vx unjudged pair taggingBody
-taggings-judged = refl
+part-pairs-judged = refl
 
 -- ---- each type gives its own number
 

@@ -82,6 +82,7 @@ unlessEmpty tag type bytesOf (x ∷ xs) = (tag, spelt type ++ joined (map bytesO
 abbrev pub typeOf : (kind : ℕ) → String
 typeOf kind = if eqb kind FACE then "FACE" else "PTCH"
 
+-- a PTAG of a type, for the polygons of a run that have the number which that type gives
 abbrev pub taggingChunk : (type : String) → (number : Polygon → ℕ) → List Polygon → List (String × List ℕ)
 taggingChunk type number run = unlessEmpty "PTAG" type pairBytes (pairsOf number 0 run)
 

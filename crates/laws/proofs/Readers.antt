@@ -25,7 +25,7 @@ use Rattle.format.specs.Surfaces.{Value, value, levelTag, floatLevel, lwobValue
 use Rattle.format.specs.Bodies.{Part, pointList, nameList, polygonList, tagging, surface, layer, skippedChunk, point, pointsBody, layerBody, newName, name, namesAfter, namesBody, lwobVertices, inNameList, detail, details, detailsAfter, face, facesBody, patch, patchesBody, countBits, lwo2Vertices, polygon, polygonKind, polygonsBody, pair, pairsType, taggingBody, surfaceStrings, surfaceBody}
 use Rattle.format.specs.Rules.{Before, there, count, when_read_, judge}
 use Rattle.format.specs.Written.{goodPolygon, noZero, goodNames}
-use Rattle.format.proofs.Facts.{impossible, both, every-at, all-first, all-rest, all-append-true, all-drop, all-part, between-true}
+use Rattle.format.proofs.Facts.{impossible, both, every-at, all-first, all-rest, all-append-true, all-drop, all-part, between-true, all-map}
 use Rattle.format.proofs.ListedTags.{judge-cases}
 use Rattle.laws.specs.FaultStarts.{OneItem, FaultStarts, BodyFaultStarts}
 use Rattle.laws.specs.FaultStarts.OneItem.{unsigned, signed as signed-item, long-index, index as index-item, text, asked as asked-item}
@@ -463,11 +463,6 @@ polygon-good limit pointCount nameCount p l vs kind surface-good part-good =
     let so = and-eq-true-iff (between 1 limit (length (p .vertices))) (all (λ v. ltb v pointCount) (p .vertices)) .0 vs in
     let range = between-true 1 limit (length (p .vertices)) (so .0) in
     polygon-is-good (record { kinds = between-true FACE PATCH (p .kind) kind; count = (range .0, omega arith); vertices = so .1; surface = surface-good; part-name = part-good })
-
-all-map : {A C : Type 0} (p : C → Bool) (f : A → C) (xs : List A) → all (λ x. p (f x)) xs ≡ true → all p (map f xs) ≡ true
-unfolding all
-all-map p f [] e = refl
-all-map p f (x ∷ xs) e = let so = and-eq-true-iff (p (f x)) (all (λ x. p (f x)) xs) .0 e in both (so .0) (all-map p f xs (so .1))
 
 -- a surface number that names one of the names
 named : (pointCount nameCount : ℕ) (z : ℤ) (p : Polygon) → goodVertices lwobVertexLimit pointCount (p .vertices) ≡ true → between FACE PATCH (p .kind) ≡ true

@@ -75,8 +75,8 @@ fn grid(side: usize) -> Tables {
     });
     let faces = (side - 1) * (side - 1);
     let level = 0.5f32.to_bits();
-    // A face of four vertices with the first surface, and a surface that is defined.
-    let polygon: [u32; POLYGON_WORDS] = [1, 4, 1];
+    // A face of four vertices with the first surface and no part, and a surface that is defined.
+    let polygon: [u32; POLYGON_WORDS] = [1, 4, 1, 0];
     let record: [u32; RECORD_WORDS] = [1, level, level, level, level, 0, 0, 0, 0, 1];
     Tables {
         points: points.collect(),

@@ -49,9 +49,9 @@ fn add_vertices(file: &[u8], chunk: usize, body: Range<usize>, list: &mut Vec<In
 }
 
 /// "Type SURF: pairs of polygon (VX) and tag (U2, from 0) into the latest POLS
-/// and the TAGS so far."
+/// and the TAGS so far." #111: "PART pairs are read like SURF pairs".
 fn add_polygons(file: &[u8], chunk: usize, body: Range<usize>, list: &mut Vec<Index>) {
-    if &tag(file, body.start) != b"SURF" {
+    if !matches!(&tag(file, body.start), b"SURF" | b"PART") {
         return;
     }
     let mut at = body.start + 4;
@@ -170,6 +170,19 @@ mod tests {
         let places: Vec<(usize, usize)> = list.iter().map(|one| (one.at, one.chunk)).collect();
         assert_eq!(places, [(82, 68), (84, 68), (86, 68), (100, 88)]);
         assert!(list.iter().all(|one| is_short(&file, one)));
+    }
+
+    /// The horse has 31 vertices, the pairs of 7 surfaces and of 5 parts, and
+    /// the envelopes of two colours.
+    #[test]
+    fn those_of_the_horse() {
+        let file = sample("horse.lwo");
+        let of = |tag: &Tag| {
+            let list = indices(&file).into_iter();
+            let held = list.filter(|one| file[one.chunk..].starts_with(tag));
+            held.count()
+        };
+        assert_eq!([b"POLS", b"PTAG", b"SURF"].map(of), [31, 7 + 5, 2]);
     }
 
     /// Every index of the shield is long, and nothing more can be lengthened.

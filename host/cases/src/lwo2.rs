@@ -4,7 +4,7 @@ use crate::assemble::{chunk, f4, join, string, sub_chunk, u2, vx, Kind, Tag};
 use crate::floats::finite;
 use crate::layer::Layer;
 use crate::names;
-use crate::plain::{PlainRecord, MISSING_COLOUR};
+use crate::plain::{PlainMesh, PlainRecord, MISSING_COLOUR};
 use crate::random::Random;
 use crate::unlisted::{any_body, any_tag, unlisted_sub_chunk};
 use crate::valid::{coordinates, corners, last_body, point_count, word_at, Draft, Valid};
@@ -30,6 +30,10 @@ pub fn valid(random: &mut Random) -> Valid {
     let most = random.index(7);
     let mut draft = Draft::new(Kind::Lwo2, names::listed(random, most));
     let mut state = State::default();
+    // As modellers write it, the names come first.
+    if random.once_in(2) {
+        add_names(&mut draft, &mut state);
+    }
     if random.once_in(3) {
         add_layers(random, &mut draft, &mut state);
     } else {
@@ -57,8 +61,12 @@ fn add_layers(random: &mut Random, draft: &mut Draft, state: &mut State) {
 fn add_inside(random: &mut Random, draft: &mut Draft, state: &mut State) {
     match state.polygons {
         Some(polygons) if random.once_in(2) => {
-            add_tagging(random, draft, state, polygons);
-            add_other_tagging(random, draft);
+            for _ in 0..random.between(1, 4) {
+                match random.below(4) {
+                    0 => add_other_tagging(random, draft),
+                    _ => add_tagging(random, draft, state, polygons),
+                }
+            }
         }
         _ if random.once_in(6) => add_points(random, draft, state),
         _ => add_list(random, draft, state),
@@ -175,18 +183,29 @@ fn high_bits(random: &mut Random) -> u16 {
     }
 }
 
-/// PTAG SURF with pairs in any order, some polygons more than once: "The last
-/// tag for a polygon stands (house)."
+/// What a pair says of a polygon: its surface or its part.
+type Set = fn(&mut PlainMesh, u32, u32);
+
+/// The types of PTAG whose pairs are read.
+const TAGGINGS: [(&Tag, Set); 2] = [
+    (b"SURF", PlainMesh::set_surface),
+    (b"PART", PlainMesh::set_part),
+];
+
+/// PTAG SURF or PTAG PART with pairs in any order, some polygons more than once:
+/// "The last tag for a polygon stands (house)." #111: "PART pairs are read like
+/// SURF pairs".
 fn add_tagging(random: &mut Random, draft: &mut Draft, state: &State, polygons: Latest) {
     let names = if state.names { draft.names.len() } else { 0 };
-    let mut body = b"SURF".to_vec();
+    let (kind, set) = *random.pick(&TAGGINGS);
+    let mut body = kind.to_vec();
     if polygons.count > 0 && names > 0 {
         for _ in 0..random.below(2 * u64::from(polygons.count) + 1) {
             let polygon = random.below(u64::from(polygons.count)) as u32;
             let tag = random.index(names) as u32;
             body.extend(vx(polygon));
             body.extend(u2(tag as u16));
-            draft.mesh.set_surface(polygons.first + polygon, tag + 1);
+            set(&mut draft.mesh, polygons.first + polygon, tag + 1);
         }
     }
     draft.add(chunk(b"PTAG", &body));
@@ -194,10 +213,12 @@ fn add_tagging(random: &mut Random, draft: &mut Draft, state: &State, polygons: 
 
 /// "Other types: four type bytes are required and the rest isn't judged."
 fn add_other_tagging(random: &mut Random, draft: &mut Draft) {
-    let types: [Tag; 5] = [
-        *b"PART",
+    let types: [Tag; 7] = [
         *b"SMGP",
+        *b"COLR",
         *b"surf",
+        *b"part",
+        *b"PARU",
         [0; 4],
         [0xff, 0x1f, 0x7f, 0x80],
     ];

@@ -4,11 +4,12 @@ use std::ops::Range;
 
 use crate::floats::{finite, NOT_FINITE};
 use crate::names;
-use crate::plain::{PlainMesh, PlainRecord, UNDEFINED};
+use crate::plain::{PlainMesh, PlainRecord, POLYGON_WORDS, UNDEFINED};
 use crate::random::Random;
 
-/// A random mesh: runs of kinds, polygons with and without a surface, names
-/// with and without a record. It may be empty in any part.
+/// A random mesh: runs of kinds, polygons with and without a surface and with
+/// and without a part, names with and without a record. It may have no points,
+/// no polygons and no names.
 pub fn mesh(random: &mut Random) -> PlainMesh {
     let points = match random.below(8) {
         0 => 0,
@@ -26,8 +27,9 @@ pub fn mesh(random: &mut Random) -> PlainMesh {
     mesh
 }
 
-/// A random mesh in which every part has at least two entries, with a defined
-/// and an undefined record, a tagged and an untagged polygon.
+/// A random mesh in which every table has at least two entries, with a defined
+/// and an undefined record, and polygons with a surface and a part, with
+/// neither, and with a part alone.
 pub fn rich_mesh(random: &mut Random) -> PlainMesh {
     let mut mesh = PlainMesh::default();
     let points = 2 + random.index(10);
@@ -36,8 +38,9 @@ pub fn rich_mesh(random: &mut Random) -> PlainMesh {
     mesh.add_name(b"ash", &UNDEFINED);
     let more = random.index(4);
     add_names(random, &mut mesh, more);
-    mesh.add_polygon(1, &[0, 1], 1);
+    mesh.add_polygon_of_part(1, &[0, 1], 1, 2);
     mesh.add_polygon(2, &[1], 0);
+    mesh.add_polygon_of_part(2, &[0], 0, 1);
     let polygons = random.below(10);
     add_polygons(random, &mut mesh, polygons);
     mesh
@@ -95,7 +98,12 @@ fn add_polygons(random: &mut Random, mesh: &mut PlainMesh, count: u64) {
         if random.once_in(3) {
             kind = 3 - kind;
         }
-        let surface = random.below(mesh.names.len() as u64 + 1) as u32;
+        let names = mesh.names.len() as u64;
+        let surface = random.below(names + 1) as u32;
+        let part = match random.once_in(2) {
+            true => 0,
+            false => random.below(names + 1) as u32,
+        };
         let corners = if random.once_in(30) {
             1_023
         } else {
@@ -103,7 +111,7 @@ fn add_polygons(random: &mut Random, mesh: &mut PlainMesh, count: u64) {
         };
         let points = u64::from(mesh.point_count());
         let vertices: Vec<u32> = (0..corners).map(|_| random.below(points) as u32).collect();
-        mesh.add_polygon(kind, &vertices, surface);
+        mesh.add_polygon_of_part(kind, &vertices, surface, part);
     }
 }
 
@@ -150,6 +158,8 @@ impl List<'_> {
 fn parts_of_entries(list: &mut List) {
     for words in 1..3 {
         list.add("part of a point", |mesh| extend(&mut mesh.points, words));
+    }
+    for words in 1..POLYGON_WORDS {
         list.add("part of a polygon", |mesh| {
             extend(&mut mesh.polygons, words);
         });
@@ -158,6 +168,7 @@ fn parts_of_entries(list: &mut List) {
         list.add("part of a record", |mesh| extend(&mut mesh.records, words));
     }
     list.add("a point cut", |mesh| shorten(&mut mesh.points));
+    list.add("a polygon cut", |mesh| shorten(&mut mesh.polygons));
     list.add("a record cut", |mesh| shorten(&mut mesh.records));
 }
 
@@ -187,7 +198,8 @@ fn counts_that_disagree(list: &mut List) {
     list.add("a name length too many", |mesh| mesh.names.push(0));
     list.add("vertex counts that wrap round", |mesh| {
         mesh.polygons[1] = mesh.polygons[1].wrapping_sub(0x8000_0000);
-        mesh.polygons[4] = mesh.polygons[4].wrapping_sub(0x8000_0000);
+        let second = POLYGON_WORDS + 1;
+        mesh.polygons[second] = mesh.polygons[second].wrapping_sub(0x8000_0000);
     });
     list.add("name lengths that wrap round", |mesh| {
         mesh.names[0] = mesh.names[0].wrapping_sub(0x8000_0000);
@@ -196,18 +208,17 @@ fn counts_that_disagree(list: &mut List) {
 }
 
 /// "a kind, vertex count (1 to 1,023), vertex number ... outside its range; a
-/// surface above the name count".
+/// surface above the name count". #111: "A part above the name count or 65,536
+/// is 17."
 fn polygons_out_of_range(random: &mut Random, list: &mut List) {
-    let polygon = random.index(list.whole.polygons.len() / 3) * 3;
+    let number = random.below(u64::from(list.whole.polygon_count())) as u32;
+    let polygon = number as usize * POLYGON_WORDS;
     for kind in [0, 3, 0x0100_0001, u32::MAX] {
         list.add("a kind", |mesh| mesh.polygons[polygon] = kind);
     }
-    list.add("no vertices", |mesh| {
-        mesh.polygons.extend_from_slice(&[1, 0, 0]);
-    });
+    list.add("no vertices", |mesh| mesh.add_polygon(1, &[], 0));
     list.add("1,024 vertices", |mesh| {
-        mesh.polygons.extend_from_slice(&[1, 1_024, 0]);
-        extend(&mut mesh.vertices, 1_024);
+        mesh.add_polygon(1, &[0; 1_024], 0);
     });
     let points = list.whole.point_count();
     let vertex = random.index(list.whole.vertices.len());
@@ -219,8 +230,14 @@ fn polygons_out_of_range(random: &mut Random, list: &mut List) {
         *mesh.vertices.last_mut().expect("a vertex") = points;
     });
     let names = list.whole.names.len() as u32;
-    for surface in [names + 1, 65_537, u32::MAX] {
-        list.add("a surface", |mesh| mesh.polygons[polygon + 2] = surface);
+    for above in [names + 1, 65_537, u32::MAX] {
+        list.add("a surface", |mesh| mesh.set_surface(number, above));
+        list.add("a part", |mesh| mesh.set_part(number, above));
+    }
+    let last = list.whole.polygon_count() - 1;
+    for (which, number) in [("first", 0), ("last", last)] {
+        let name = format!("the {which} part");
+        list.add(&name, |mesh| mesh.set_part(number, names + 1));
     }
 }
 
@@ -316,7 +333,12 @@ pub fn at_bounds() -> Vec<(String, PlainMesh)> {
     names.add_name(b"", &UNDEFINED);
     names.add_name(&[255], &UNDEFINED);
     names.add_polygon(1, &[0], 3);
-    add("names", names);
+    add("names", names.clone());
+    let mut part = names;
+    part.set_surface(0, 0);
+    part.set_part(0, 3);
+    add("part alone", part);
+    add("parts of runs", parts_of_runs());
     let mut levels = one_point();
     let (largest, least) = (0x7f7f_ffff, 0x0000_0001);
     levels.points = vec![largest, 0xff7f_ffff, least];
@@ -335,6 +357,33 @@ pub fn at_bounds() -> Vec<(String, PlainMesh)> {
     levels.add_name(b"a", &record);
     add("levels", levels);
     list
+}
+
+/// Runs whose polygons have both a surface and a part, one of them, and none:
+/// "a PTAG PART for each run with a part name, after its PTAG SURF if any".
+fn parts_of_runs() -> PlainMesh {
+    let mut mesh = PlainMesh {
+        points: vec![0; 3],
+        ..PlainMesh::default()
+    };
+    for name in [&b"oak"[..], b"head", b"saddle"] {
+        mesh.add_name(name, &UNDEFINED);
+    }
+    let (face, patch) = (1, 2);
+    let rows = [
+        (face, 1, 0),
+        (face, 0, 2),
+        (face, 0, 0),
+        (face, 1, 3),
+        (patch, 0, 0),
+        (patch, 0, 2),
+        (face, 1, 0),
+        (patch, 0, 0),
+    ];
+    for (kind, surface, part) in rows {
+        mesh.add_polygon_of_part(kind, &[0], surface, part);
+    }
+    mesh
 }
 
 /// A mesh with one to three words, bytes or lengths changed. It may be a mesh
@@ -400,16 +449,46 @@ pub fn at_file_limit(over: bool) -> PlainMesh {
     mesh
 }
 
+/// The same with a POLS and a PTAG PART of one polygon, whose bytes count too.
+pub fn parts_at_file_limit(over: bool) -> PlainMesh {
+    let points = 1_398_096;
+    let mut mesh = PlainMesh {
+        points: vec![0x3f80_0000; points * 3],
+        ..PlainMesh::default()
+    };
+    // 12 + (8 + 4) + (8 + 12 * 1,398,096) + (8 + 8) + (8 + 8) = 16,777,216.
+    let length = if over { 4 } else { 3 };
+    mesh.add_name(&vec![b'n'; length], &UNDEFINED);
+    mesh.add_polygon_of_part(1, &[0], 0, 1);
+    mesh
+}
+
 /// A mesh that needs both forms of an index, for vertices and for polygons:
-/// 65,282 points and 65,282 faces of one vertex each, all with a surface.
+/// 65,282 points and 65,282 faces of one vertex each, all with a surface and a
+/// part.
 pub fn long_indices() -> PlainMesh {
     let mut mesh = PlainMesh {
         points: vec![0x3f80_0000; 65_282 * 3],
         ..PlainMesh::default()
     };
     mesh.add_name(b"a", &UNDEFINED);
+    mesh.add_name(b"b", &UNDEFINED);
     for vertex in 0..65_282 {
-        mesh.add_polygon(1, &[vertex], 1);
+        mesh.add_polygon_of_part(1, &[vertex], 1, 2);
     }
+    mesh
+}
+
+/// More names than tags reach, and a polygon whose surface and part are these:
+/// the highest of each is 65,536.
+pub fn many_names(surface: u32, part: u32) -> PlainMesh {
+    let mut mesh = PlainMesh {
+        points: vec![0; 3],
+        ..PlainMesh::default()
+    };
+    for name in names::many(65_540) {
+        mesh.add_name(&name, &UNDEFINED);
+    }
+    mesh.add_polygon_of_part(1, &[0], surface, part);
     mesh
 }

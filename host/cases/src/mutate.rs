@@ -1,7 +1,7 @@
 //! Byte mutations of a file: what happens to files on the way. Nothing is
 //! expected of a mutated file but that every reader answers it.
 
-use crate::assemble::{u2, u4, Kind};
+use crate::assemble::{u2, u4, Kind, Parts, Tag};
 use crate::indices::{all_lengthened, indices, is_short, lengthened};
 use crate::insert::{boundaries, correct_form_length};
 use crate::random::Random;
@@ -16,14 +16,14 @@ pub fn mutated(random: &mut Random, valid: &Valid) -> Vec<u8> {
     file
 }
 
-/// The file, or the file with chunks swapped, doubled or left out, or with
-/// indices in the long form.
+/// The file, or the file with chunks swapped, doubled or left out, with indices
+/// in the long form, or with another type of a PTAG.
 fn rearranged(random: &mut Random, valid: &Valid) -> Vec<u8> {
     let mut parts = valid.parts.clone();
     let count = parts.chunks.len();
     if count > 0 {
         let (one, other) = (random.index(count), random.index(count));
-        match random.below(6) {
+        match random.below(7) {
             0 => parts.chunks.swap(one, other),
             1 => {
                 let again = parts.chunks[one].clone();
@@ -33,6 +33,7 @@ fn rearranged(random: &mut Random, valid: &Valid) -> Vec<u8> {
                 parts.chunks.remove(one);
             }
             3 if parts.kind == Kind::Lwo2 => return with_long_indices(random, &parts.file()),
+            4 if parts.kind == Kind::Lwo2 => change_type(random, &mut parts),
             _ => {
                 let mut file = parts.file();
                 change(random, &mut file);
@@ -51,6 +52,18 @@ fn with_long_indices(random: &mut Random, file: &[u8]) -> Vec<u8> {
         all_lengthened(file)
     } else {
         lengthened(file, random.pick(&short))
+    }
+}
+
+/// One PTAG gets another type: surfaces become parts and parts surfaces, bytes
+/// that were not judged become pairs, and pairs such bytes.
+fn change_type(random: &mut Random, parts: &mut Parts) {
+    let types: [&Tag; 4] = [b"SURF", b"PART", b"PART", b"SMGP"];
+    let chunks = parts.chunks.iter_mut();
+    let mut taggings: Vec<&mut Vec<u8>> = chunks.filter(|one| one.starts_with(b"PTAG")).collect();
+    if !taggings.is_empty() {
+        let at = random.index(taggings.len());
+        taggings[at][8..12].copy_from_slice(*random.pick(&types));
     }
 }
 

@@ -9,6 +9,7 @@ pub fn samples() -> Vec<(&'static str, Vec<u8>)> {
     vec![
         ("chest.lwo", chest()),
         ("damaged.lwo", damaged()),
+        ("horse.lwo", horse()),
         ("oak.lwo", oak()),
         ("panel.lwo", panel()),
         ("rosette.lwo", rosette()),
@@ -129,7 +130,7 @@ fn rosette() -> Vec<u8> {
 
 /// LWO2: a chest in two layers, each with a point list. The body is a box of six faces, the lid a
 /// patch whose vertex numbers count from the second list. The body's layer is the parent of the
-/// lid's.
+/// lid's, and the body's bottom is the part "Base".
 fn chest() -> Vec<u8> {
     let body = [
         [0.0, 0.0, 0.0],
@@ -155,16 +156,15 @@ fn chest() -> Vec<u8> {
         &[2, 6, 7, 3],
         &[3, 7, 4, 0],
     ];
-    let parts = join(&[&b"PART"[..], &vx(0), &u2(0)]);
     // The front is tagged twice, and the last tag stands: a brass front.
     let body_tags = [(0, 0), (1, 0), (2, 0), (3, 0), (4, 0), (5, 0), (2, 1)];
     let chunks = [
-        chunk(b"TAGS", &strings(&[b"Walnut", b"Brass", b"Felt"])),
+        chunk(b"TAGS", &strings(&[b"Walnut", b"Brass", b"Base"])),
         layer(0, b"Body", None),
         chunk(b"PNTS", &points(&body)),
         chunk(b"POLS", &lwo2_polygons(b"FACE", &sides)),
         chunk(b"PTAG", &taggings(&body_tags)),
-        chunk(b"PTAG", &parts),
+        chunk(b"PTAG", &parts(&[(0, 2)])),
         layer(1, b"Lid", Some(0)),
         chunk(b"PNTS", &points(&lid)),
         chunk(b"POLS", &lwo2_polygons(b"PTCH", &[&[0, 3, 2, 1]])),
@@ -173,6 +173,78 @@ fn chest() -> Vec<u8> {
         chunk(b"SURF", &brass()),
     ];
     form(Kind::Lwo2, &join(&chunks))
+}
+
+/// LWO2: a carousel horse of oak and pine. "Modellers mark "head" and "saddle" with PTAG of type
+/// PART": neck, skull and eye are the head, flap and seat the saddle, and the trunk and its legs
+/// are no part. The eye is painted on, so that it has a part and no board.
+fn horse() -> Vec<u8> {
+    let corners = [
+        // The trunk.
+        [0.4, 0.6, 0.0],
+        [1.2, 0.6, 0.0],
+        [1.2, 1.0, 0.0],
+        [0.4, 1.0, 0.0],
+        // The feet, and how wide the legs are at the trunk.
+        [0.4, 0.0, 0.0],
+        [0.5, 0.0, 0.0],
+        [0.5, 0.6, 0.0],
+        [1.1, 0.0, 0.0],
+        [1.2, 0.0, 0.0],
+        [1.1, 0.6, 0.0],
+        // The neck, the skull and the eye.
+        [1.0, 1.0, 0.0],
+        [1.4, 1.4, 0.0],
+        [1.2, 1.4, 0.0],
+        [1.7, 1.2, 0.0],
+        [1.7, 1.3, 0.0],
+        [1.3, 1.6, 0.0],
+        [1.38, 1.46, 0.02],
+        [1.42, 1.46, 0.02],
+        [1.4, 1.5, 0.02],
+        // The flap, and the seat, which is as wide as the horse is thick.
+        [0.65, 0.7, 0.15],
+        [0.85, 0.7, 0.15],
+        [0.85, 1.0, 0.15],
+        [0.65, 1.0, 0.15],
+        [0.6, 1.0, -0.15],
+        [0.9, 1.0, -0.15],
+        [0.9, 1.0, 0.15],
+        [0.6, 1.0, 0.15],
+    ];
+    let (oak, pine, head, saddle) = (0, 1, 2, 3);
+    let faces: [&[u32]; 7] = [
+        &[0, 1, 2, 3],
+        &[4, 5, 6, 0],
+        &[7, 8, 1, 9],
+        &[10, 2, 11, 12],
+        &[12, 13, 14, 15],
+        &[16, 17, 18],
+        &[19, 20, 21, 22],
+    ];
+    let face_boards = [(0, pine), (1, oak), (2, oak), (3, pine), (4, oak), (6, oak)];
+    let face_parts = [(3, head), (4, head), (5, head), (6, saddle)];
+    let seat: &[u32] = &[23, 24, 25, 26];
+    let chunks = [
+        chunk(b"TAGS", &strings(&[b"Oak", b"Pine", b"head", b"saddle"])),
+        layer(0, b"Horse", None),
+        chunk(b"PNTS", &points(&corners)),
+        chunk(b"POLS", &lwo2_polygons(b"FACE", &faces)),
+        chunk(b"PTAG", &taggings(&face_boards)),
+        chunk(b"PTAG", &parts(&face_parts)),
+        chunk(b"POLS", &lwo2_polygons(b"PTCH", &[seat])),
+        chunk(b"PTAG", &taggings(&[(0, pine)])),
+        chunk(b"PTAG", &parts(&[(0, saddle)])),
+        chunk(b"SURF", &wood(b"Oak", [0.6, 0.4, 0.2])),
+        chunk(b"SURF", &wood(b"Pine", [0.9, 0.8, 0.6])),
+    ];
+    form(Kind::Lwo2, &join(&chunks))
+}
+
+/// A board of this colour.
+fn wood(name: &[u8], colour: [f32; 3]) -> Vec<u8> {
+    let levels = join(&[points(&[colour]), vx(0)]);
+    join(&[string(name), string(b""), sub_chunk(b"COLR", &levels)])
 }
 
 /// LWO2: a saddle of leather with a gilded rim, from a program that writes no envelope's index
@@ -274,7 +346,7 @@ fn shield() -> Vec<u8> {
         chunk(b"TAGS", &strings(&[b"Gilding", b"Lime"])),
         chunk(b"PNTS", &points(&corners)),
         chunk(b"POLS", &polygons_by(vx_long, b"FACE", &[band, field])),
-        chunk(b"PTAG", &taggings_by(vx_long, &[(0, 0), (1, 1)])),
+        chunk(b"PTAG", &taggings_by(vx_long, b"SURF", &[(0, 0), (1, 1)])),
         chunk(b"SURF", &join(&lime)),
     ];
     form(Kind::Lwo2, &join(&chunks))
@@ -387,11 +459,16 @@ fn polygons_by(index: Index, kind: &Tag, list: &[&[u32]]) -> Vec<u8> {
 
 /// A PTAG of type SURF: pairs of polygon and tag.
 fn taggings(pairs: &[(u32, u16)]) -> Vec<u8> {
-    taggings_by(vx, pairs)
+    taggings_by(vx, b"SURF", pairs)
 }
 
-fn taggings_by(index: Index, pairs: &[(u32, u16)]) -> Vec<u8> {
-    let mut body = b"SURF".to_vec();
+/// The same of type PART.
+fn parts(pairs: &[(u32, u16)]) -> Vec<u8> {
+    taggings_by(vx, b"PART", pairs)
+}
+
+fn taggings_by(index: Index, kind: &Tag, pairs: &[(u32, u16)]) -> Vec<u8> {
+    let mut body = kind.to_vec();
     for &(polygon, tag) in pairs {
         body.extend(join(&[index(polygon), u2(tag)]));
     }

@@ -15,10 +15,10 @@ pub fn listed_tags(kind: Kind) -> &'static [&'static Tag] {
 
 /// Tags that are known elsewhere, and so may be taken for listed ones. Those
 /// that are listed in a kind of file are left out for it.
-const KNOWN: [&Tag; 24] = [
+const KNOWN: [&Tag; 25] = [
     b"CRVS", b"TAGS", b"PTAG", b"SRFS", b"PCHS", b"LAYR", b"VMAP", b"VMAD", b"VMPA", b"ENVL",
     b"CLIP", b"BBOX", b"DESC", b"TEXT", b"ICON", b"FORM", b"LWO2", b"BLOK", b"COLR", b"SIDE",
-    b"    ", b"~~~~", b"pnts", b"SUR ",
+    b"    ", b"~~~~", b"pnts", b"SUR ", b"PART",
 ];
 
 /// Any tag that is not listed at the top level.

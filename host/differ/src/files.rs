@@ -161,8 +161,9 @@ mod tests {
     fn the_files_at_the_bounds_are_all_there() {
         let (large, names) = (large().len(), many_names().len());
         assert_eq!(large + names, boundary::large().len());
-        // Three counts of tags and three of surfaces.
-        assert_eq!(names, 6);
+        // Two counts of tags that are enough, one that is not for a surface and
+        // for a part, and three of surfaces.
+        assert_eq!(names, 2 + 2 + 3);
     }
 
     #[test]

@@ -20,7 +20,7 @@ generated ones, with the library and with the second program, in many rooms:
 whole answers, every word of every table, all output, and the words on both
 sides. The generated ones are numbered from K, else from 0. With --seconds the
 run ends after that time, and with neither --files nor --meshes not earlier.
-With --many-names the fixed files have those with tens of thousands of names
+With --many-names the fixed ones have those with tens of thousands of names
 too. With --say each case is named before it is run, so that one which ends
 the program is known.
 
@@ -135,7 +135,12 @@ fn run_fixed(order: &Order) -> Result<Counts, Disagreement> {
     for one in list {
         counts.add(&check_file(order, &one.name, one.file)?);
     }
-    for one in meshes::fixed().into_iter().chain(meshes::large()) {
+    let mut list = meshes::fixed();
+    list.extend(meshes::large());
+    if order.many_names {
+        list.extend(meshes::many_names());
+    }
+    for one in list {
         counts.add(&check_mesh(order, &one.name, one.tables)?);
     }
     Ok(counts)

@@ -1,7 +1,9 @@
 //! The meshes that are compared, whole and damaged: fixed ones, and one for
 //! each seed and number.
 
-use cases::meshes::{at_file_limit, damaged, long_indices, mesh, rich_mesh};
+use cases::meshes::{
+    at_bounds, at_file_limit, damaged, long_indices, mesh, parts_at_file_limit, rich_mesh,
+};
 use cases::plain::PlainMesh;
 use cases::random::Random;
 use second::Tables;
@@ -32,7 +34,8 @@ pub fn tables_of(mesh: PlainMesh) -> Tables {
     }
 }
 
-/// The empty mesh, a rich one, and that one damaged in every way.
+/// The empty mesh, a rich one, that one damaged in every way, and those at the
+/// bounds of an entry.
 pub fn fixed() -> Vec<Named> {
     let random = &mut Random::new(17);
     let rich = rich_mesh(random);
@@ -42,6 +45,8 @@ pub fn fixed() -> Vec<Named> {
         .collect();
     list.push(named("empty", PlainMesh::default()));
     list.push(named("rich", rich));
+    let bounds = at_bounds().into_iter();
+    list.extend(bounds.map(|(name, mesh)| named(name, mesh)));
     list
 }
 
@@ -52,6 +57,22 @@ pub fn large() -> Vec<Named> {
         named("long indices", long_indices()),
         named("as long as a file may be", at_file_limit(false)),
         named("too long for a file", at_file_limit(true)),
+        named(
+            "with a part as long as a file may be",
+            parts_at_file_limit(false),
+        ),
+        named("too long for a file by a part", parts_at_file_limit(true)),
+    ]
+}
+
+/// Meshes with more names than tags reach, whose last name is the highest that
+/// may be a surface and a part, and one past it.
+pub fn many_names() -> Vec<Named> {
+    let of = |name: &str, surface, part| named(name, cases::meshes::many_names(surface, part));
+    vec![
+        of("surface and part 65,536", 65_536, 65_536),
+        of("surface 65,537", 65_537, 65_536),
+        of("part 65,537", 65_536, 65_537),
     ]
 }
 
@@ -118,6 +139,7 @@ fn change_bytes(random: &mut Random, bytes: &mut Vec<u8>) {
 #[cfg(test)]
 mod tests {
     use super::*;
+    use lwo::POLYGON_WORDS;
     use second::is_mesh;
 
     #[test]
@@ -130,7 +152,26 @@ mod tests {
 
     #[test]
     fn fixed_ones_have_every_damage() {
-        assert!(fixed().len() > 80);
-        assert_eq!(fixed().iter().filter(|one| is_mesh(&one.tables)).count(), 2);
+        let (whole, not): (Vec<Named>, Vec<Named>) =
+            fixed().into_iter().partition(|one| is_mesh(&one.tables));
+        assert!(not.len() > 80, "{}", not.len());
+        assert_eq!(whole.len(), 2 + at_bounds().len());
+    }
+
+    /// A part is generated in whole meshes, with a surface and without, and in
+    /// ones that are none for it.
+    #[test]
+    fn generated_ones_have_parts() {
+        let all: Vec<Named> = (0..500).map(|number| generated(1, number)).collect();
+        let times = |holds: &dyn Fn(&Named) -> bool| all.iter().filter(|one| holds(one)).count();
+        let entries = |one: &Named, holds: fn(&[u32]) -> bool| {
+            let mut entries = one.tables.polygons.chunks_exact(POLYGON_WORDS);
+            is_mesh(&one.tables) && entries.any(holds)
+        };
+        let alone = times(&|one| entries(one, |entry| entry[2] == 0 && entry[3] != 0));
+        let both = times(&|one| entries(one, |entry| entry[2] != 0 && entry[3] != 0));
+        let bad = times(&|one| one.name.ends_with(" part"));
+        assert!(alone > 100 && both > 100, "{alone} {both}");
+        assert!(bad > 2, "{bad}");
     }
 }

@@ -1,5 +1,6 @@
 //! Making a case that fails small, by leaving out parts while it still fails.
 
+use std::ops::Range;
 use std::time::{Duration, Instant};
 
 use cases::assemble::{chunk, Tag};
@@ -21,10 +22,12 @@ pub fn file(file: Vec<u8>, fails: impl Fn(&[u8]) -> bool) -> Vec<u8> {
     search.smallest
 }
 
-/// Tables that still fail, with polygons, names and entries left out.
+/// Tables that still fail, with polygons, names and entries left out, and with
+/// polygons of no surface and no part.
 pub fn mesh(tables: Tables, fails: impl Fn(&Tables) -> bool) -> Tables {
     let mut search = Search::new(tables, fails);
     while search.improve(without_a_polygon)
+        || search.improve(without_a_tag)
         || search.improve(without_last_name)
         || search.improve(without_last_entry)
     {}
@@ -134,8 +137,22 @@ fn without_a_polygon(tables: &Tables) -> Box<dyn Iterator<Item = Tables> + '_> {
     }))
 }
 
-/// The last name with its bytes and its record. Polygons keep their surface
-/// numbers; if the case no longer fails for that, it is not taken.
+/// The words of a polygon that are its surface and its part.
+const TAGS: Range<usize> = 2..POLYGON_WORDS;
+
+/// Each surface and each part that a polygon has, made none.
+fn without_a_tag(tables: &Tables) -> Box<dyn Iterator<Item = Tables> + '_> {
+    let words = tables.polygons.iter().enumerate();
+    let tags = words.filter(|&(at, &word)| TAGS.contains(&(at % POLYGON_WORDS)) && word != 0);
+    Box::new(tags.map(|(at, _)| {
+        let mut smaller = tables.clone();
+        smaller.polygons[at] = 0;
+        smaller
+    }))
+}
+
+/// The last name with its bytes and its record. Polygons keep the numbers of
+/// their names; if the case no longer fails for that, it is not taken.
 fn without_last_name(tables: &Tables) -> Box<dyn Iterator<Item = Tables> + '_> {
     let last = tables.names.last();
     Box::new(last.into_iter().map(|&length| {
@@ -206,7 +223,7 @@ mod tests {
     fn a_mesh_keeps_what_makes_it_fail() {
         let whole = Tables {
             points: vec![1; 12],
-            polygons: vec![1, 2, 0, 1, 1, 0],
+            polygons: vec![1, 2, 0, 1, 1, 1, 1, 0],
             vertices: vec![0, 1, 3],
             names: vec![2],
             name_bytes: b"ab".to_vec(),
@@ -219,5 +236,26 @@ mod tests {
             ..small
         };
         assert_eq!(rest, Tables::default());
+    }
+
+    /// What makes it fail is the part of its second polygon.
+    #[test]
+    fn a_polygon_keeps_the_part_that_makes_it_fail() {
+        let whole = Tables {
+            points: vec![1; 6],
+            polygons: vec![1, 1, 1, 1, 2, 1, 2, 2],
+            vertices: vec![0, 1],
+            names: vec![1, 1],
+            name_bytes: b"ab".to_vec(),
+            records: vec![0; 2 * RECORD_WORDS],
+        };
+        let entries = |tables: &Tables| {
+            let entries = tables.polygons.chunks_exact(POLYGON_WORDS);
+            entries.map(<[u32]>::to_vec).collect::<Vec<_>>()
+        };
+        let small = mesh(whole, |tables| {
+            entries(tables).iter().any(|entry| entry[3] == 2)
+        });
+        assert_eq!(entries(&small), [[2, 1, 0, 2]]);
     }
 }

@@ -65,7 +65,15 @@ fn on_large_files() {
 #[ignore = "names are compared with every earlier one, which takes minutes"]
 fn on_files_with_many_names() {
     let counts = check_files(files::many_names().into_iter());
-    assert_eq!((counts.files[0], counts.files[10]), (4, 2));
+    assert_eq!((counts.files[0], counts.files[10]), (4, 3));
+}
+
+/// The same of meshes.
+#[test]
+#[ignore = "names are compared with every earlier one, which takes minutes"]
+fn on_meshes_with_many_names() {
+    let counts = check_meshes(meshes::many_names().into_iter());
+    assert_eq!((counts.meshes[0], counts.meshes[17]), (1, 2));
 }
 
 #[test]
@@ -83,7 +91,8 @@ fn on_generated_files() {
 #[test]
 fn on_fixed_meshes() {
     let counts = check_meshes(meshes::fixed().into_iter());
-    assert_eq!(counts.meshes[0], 2);
+    // The empty one, the rich one, and those at the bounds.
+    assert_eq!(counts.meshes[0], 2 + 6);
     assert!(counts.meshes[17] > 80);
     assert_ne!(counts.writes_no_room, 0);
 }
@@ -91,7 +100,7 @@ fn on_fixed_meshes() {
 #[test]
 fn on_large_meshes() {
     let counts = check_meshes(meshes::large().into_iter());
-    assert_eq!((counts.meshes[0], counts.meshes[18]), (2, 1));
+    assert_eq!((counts.meshes[0], counts.meshes[18]), (3, 2));
 }
 
 #[test]

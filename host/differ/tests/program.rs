@@ -16,7 +16,7 @@ fn a_run_prints_one_line_of_counts() {
     assert!(output.status.success(), "{text}");
     assert_eq!(text.lines().count(), 1, "{text}");
     assert!(text.starts_with("seed 3: files "), "{text}");
-    for word in ["accepted", "refused", "no room", "meshes", "17:", "18:1"] {
+    for word in ["accepted", "refused", "no room", "meshes", "17:", "18:2"] {
         assert!(text.contains(word), "{word} is not in: {text}");
     }
 }

@@ -103,12 +103,50 @@ mod tests {
             let text = listing(file).replace("polygon 0 ", "polygon 1 ");
             Ok(text.into_bytes())
         };
+        let without_parts = |file: &[u8]| Ok(with_parts(file, |_| String::new()));
+        let without_part_names = |file: &[u8]| Ok(with_parts(file, |_| String::from(" part 0")));
+        let parts_from_0 = |file: &[u8]| {
+            Ok(with_parts(file, |part| {
+                format!(" part {}", part.saturating_sub(1))
+            }))
+        };
         type Program<'a> = &'a dyn Fn(&[u8]) -> io::Result<Vec<u8>>;
-        let wrong: [Program; 4] = [&refuses_all, &reads_all, &no_last_line_end, &counts_from_1];
-        for run in wrong {
+        let wrong: [Program; 7] = [
+            &refuses_all,
+            &reads_all,
+            &no_last_line_end,
+            &counts_from_1,
+            &without_parts,
+            &without_part_names,
+            &parts_from_0,
+        ];
+        for (number, run) in wrong.into_iter().enumerate() {
             let result = compare(run, fixed()).expect("it runs");
-            assert!(result.is_err());
+            assert!(result.is_err(), "{number}");
         }
+    }
+
+    /// With the right words for its parts, the program is right.
+    #[test]
+    fn right_parts_agree() {
+        let same = |file: &[u8]| Ok(with_parts(file, |part| format!(" part {part}")));
+        let counts = compare(same, fixed()).expect("it runs");
+        assert!(counts.expect("they agree").accepted > 0);
+    }
+
+    /// The listing with other words for the part of each polygon.
+    fn with_parts(file: &[u8], words: fn(u32) -> String) -> Vec<u8> {
+        let mut text = String::new();
+        for line in listing(file).lines() {
+            let changed = line.split_once(" part ").and_then(|(front, rest)| {
+                let (part, vertices) = rest.split_once(' ')?;
+                let part = words(part.parse().ok()?);
+                Some(format!("{front}{part} {vertices}"))
+            });
+            text += changed.as_deref().unwrap_or(line);
+            text.push('\n');
+        }
+        text.into_bytes()
     }
 
     #[test]

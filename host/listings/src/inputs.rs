@@ -12,6 +12,7 @@ const READINGS: &str = include_str!("../../second/tests/readings.txt");
 const SAMPLE_000: &str = include_str!("../../second/tests/sample-000.hex");
 const CASE_L: &[u8] = include_bytes!("../../../samples/oak.lwo");
 const PANEL: &[u8] = include_bytes!("../../../samples/panel.lwo");
+const HORSE: &[u8] = include_bytes!("../../../samples/horse.lwo");
 
 /// "The program's input: at most 65,536 bytes."
 const MOST_BYTES: usize = 65_536;
@@ -39,6 +40,7 @@ fn samples() -> Vec<Input> {
     vec![
         (String::from("case l"), CASE_L.to_vec()),
         (String::from("panel"), PANEL.to_vec()),
+        (String::from("horse"), HORSE.to_vec()),
         (String::from("sample of source 000"), bytes(SAMPLE_000)),
     ]
 }
@@ -91,6 +93,21 @@ mod tests {
         for number in (2..=15).chain([19, 20, 22]) {
             let start = format!("refused {number} at ");
             assert!(some(&|line| line.starts_with(&start)), "{start}");
+        }
+    }
+
+    /// #111: "The listing adds ` part N` before ` vertices`": polygons with a
+    /// part and without one, each with a surface and without one.
+    #[test]
+    fn the_fixed_files_have_parts() {
+        let texts: Vec<String> = fixed().map(|(_, file)| listing(&file)).collect();
+        for tagged in [
+            " surface 0 part 0 vertices ",
+            " surface 0 part 2 vertices ",
+            " surface 2 part 0 vertices ",
+            " surface 1 part 3 vertices ",
+        ] {
+            assert!(texts.iter().any(|text| text.contains(tagged)), "{tagged}");
         }
     }
 

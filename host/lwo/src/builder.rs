@@ -20,8 +20,11 @@ use crate::tables::{Tables, POINT_WORDS};
 /// let oak = board.surface(&oak);
 /// board.polygon(Kind::Face, oak, &corners);
 /// board.polygon(Kind::Face, lwo::NO_SURFACE, &[2, 1, 0]);
+/// let lid = board.name("Lid");
+/// board.polygon_of_part(Kind::Face, oak, lid, &corners);
 /// let mesh = board.build()?;
-/// assert_eq!(mesh.polygons().len(), 2);
+/// assert_eq!(mesh.polygons().len(), 3);
+/// assert!(mesh.parts().eq([lwo::Name::from("Lid")]));
 /// # Ok::<(), lwo::Refusal>(())
 /// ```
 #[derive(Clone, Debug, Default)]
@@ -31,6 +34,9 @@ pub struct MeshBuilder {
 
 /// The surface number of a polygon without a surface.
 pub const NO_SURFACE: u32 = 0;
+
+/// The part number of a polygon that belongs to no part.
+pub const NO_PART: u32 = 0;
 
 impl MeshBuilder {
     /// Nothing yet.
@@ -45,7 +51,8 @@ impl MeshBuilder {
         number_of(number)
     }
 
-    /// Adds a name and its surface, and gives the surface number, by which polygons name it.
+    /// Adds a name and its surface, and gives the name's number, by which polygons have it as their
+    /// surface or their part.
     pub fn surface(&mut self, surface: &Surface) -> u32 {
         let name = surface.name.as_bytes();
         self.tables.names.push(number_of(name.len()));
@@ -54,21 +61,27 @@ impl MeshBuilder {
         number_of(self.tables.names.len())
     }
 
-    /// Adds a name without values of its own, and gives its surface number.
+    /// Adds a name without values of its own, as that of a part mostly is, and gives its number.
     pub fn name<'a>(&mut self, name: impl Into<Name<'a>>) -> u32 {
         self.surface(&Surface::undefined(name))
     }
 
-    /// Adds a polygon of a surface, or of [`NO_SURFACE`], with these points.
+    /// Adds a polygon of a surface, or of [`NO_SURFACE`], with these points. It belongs to no part.
     pub fn polygon(&mut self, kind: Kind, surface: u32, vertices: &[u32]) {
-        let entry = polygon::entry(kind, number_of(vertices.len()), surface);
+        self.polygon_of_part(kind, surface, NO_PART, vertices);
+    }
+
+    /// Adds a polygon of a surface, or of [`NO_SURFACE`], with these points. It belongs to a part,
+    /// or to [`NO_PART`].
+    pub fn polygon_of_part(&mut self, kind: Kind, surface: u32, part: u32, vertices: &[u32]) {
+        let entry = polygon::entry(kind, number_of(vertices.len()), surface, part);
         self.tables.polygons.extend(entry);
         self.tables.vertices.extend(vertices);
     }
 
-    /// The mesh, or a refusal (17) where what was given is none: a vertex or surface that names
-    /// nothing, a name that is there twice, has a zero byte or is too long, a number that is not
-    /// finite, or a polygon of no vertices or more than 1,023.
+    /// The mesh, or a refusal (17) where what was given is none: a vertex, surface or part that
+    /// names nothing, a name that is there twice, has a zero byte or is too long, a number that is
+    /// not finite, or a polygon of no vertices or more than 1,023.
     pub fn build(self) -> Result<Mesh, Refusal> {
         Mesh::from_tables(self.tables)
     }

@@ -2,9 +2,9 @@
 //!
 //! The reading and writing is done by a library whose functions are proved to meet the rules;
 //! this crate lends it slices and gives its answers Rust's shapes. It reads points, faces,
-//! patches, names and base surface values. The layers of an LWO2 file are judged and not kept:
-//! its mesh has the points and polygons of all of them. Curves, vertex maps, clips, envelopes and
-//! textures are not read.
+//! patches, names of surfaces and of the parts of a figure, and base surface values. The layers of
+//! an LWO2 file are judged and not kept: its mesh has the points and polygons of all of them.
+//! Curves, vertex maps, clips, envelopes and textures are not read.
 //!
 //! ```
 //! # let file = b"FORM\0\0\0\x60LWO2TAGS\0\0\0\x04Oak\0PNTS\0\0\0\x24\
@@ -64,7 +64,7 @@ mod starts;
 mod surface;
 mod tables;
 
-pub use builder::{MeshBuilder, NO_SURFACE};
+pub use builder::{MeshBuilder, NO_PART, NO_SURFACE};
 pub use counts::Counts;
 pub use escaped::Escaped;
 pub use mesh::Mesh;

@@ -17,8 +17,8 @@ use crate::FILE_LIMIT;
 /// Points, polygons with their vertices, names, and a surface record for each name.
 ///
 /// A `Mesh` holds only tables that are a mesh by the rules, so what its methods give needs no
-/// check: counts agree, vertices and surfaces name something, floats are finite. Two meshes are
-/// equal when they are the same to the bit; 0.0 and -0.0 differ.
+/// check: counts agree, vertices, surfaces and parts name something, floats are finite. Two meshes
+/// are equal when they are the same to the bit; 0.0 and -0.0 differ.
 #[derive(Clone, Debug, Default, PartialEq, Eq, Hash)]
 pub struct Mesh {
     tables: Tables,
@@ -70,7 +70,7 @@ impl Mesh {
     ///
     /// let mut tables = Tables {
     ///     points: [0.0, 0.0, 0.0, 1.0, 0.0, 0.0, 0.0, 2.0, 0.0].map(f32::to_bits).to_vec(),
-    ///     polygons: vec![1, 3, 0], // a face of three vertices without a surface
+    ///     polygons: vec![1, 3, 0, 0], // a face of three vertices without a surface or a part
     ///     vertices: vec![0, 1, 2],
     ///     ..Tables::default()
     /// };
@@ -157,18 +157,20 @@ impl Mesh {
         ))
     }
 
-    /// The names in file order.
+    /// The names in file order: those of surfaces and those of parts.
     pub fn names(&self) -> Names<'_> {
         Names::new(&self.tables.names, &self.tables.name_bytes)
     }
 
-    /// The name of this index, counted from 0, as [`Polygon::name_index`] has it.
+    /// The name of this index, counted from 0, as [`Polygon::name_index`] and
+    /// [`Polygon::part_index`] have it.
     pub fn name(&self, index: usize) -> Option<Name<'_>> {
         let bytes = self.byte_starts.range(index)?;
         Some(Name::from(&self.tables.name_bytes[bytes]))
     }
 
-    /// The surfaces, one for each name and in the same order.
+    /// The surfaces, one for each name and in the same order; also for a name that only polygons'
+    /// parts have.
     pub fn surfaces(&self) -> impl ExactSizeIterator<Item = Surface<'_>> {
         let (records, _) = self.tables.records.as_chunks::<RECORD_WORDS>();
         self.names()
@@ -187,6 +189,47 @@ impl Mesh {
         self.surface(polygon.name_index()?)
     }
 
+    /// The name of the part that a polygon of this mesh belongs to, if it belongs to one.
+    ///
+    /// ```
+    /// # let file = b"FORM\0\0\0\x46LWO2TAGS\0\0\0\x06head\0\0\
+    /// #     PNTS\0\0\0\x0c\0\0\0\0\0\0\0\0\0\0\0\0\
+    /// #     POLS\0\0\0\x08FACE\0\x01\0\0PTAG\0\0\0\x08PART\0\0\0\0";
+    /// // `file` holds a polygon that a PTAG of type PART marks as "head".
+    /// let mesh = lwo::Mesh::read(file)?;
+    /// let polygon = mesh.polygon(0).expect("it has one");
+    /// assert_eq!(mesh.part_of(&polygon), Some(lwo::Name::from("head")));
+    /// assert_eq!(mesh.surface_of(&polygon), None);
+    /// # Ok::<(), lwo::Refusal>(())
+    /// ```
+    pub fn part_of(&self, polygon: &Polygon) -> Option<Name<'_>> {
+        self.name(polygon.part_index()?)
+    }
+
+    /// The names that are parts of polygons, each once and in the order of the names.
+    ///
+    /// ```
+    /// use lwo::{Kind, MeshBuilder, Name, NO_SURFACE};
+    ///
+    /// let mut horse = MeshBuilder::new();
+    /// let nose = horse.point([0.0; 3]);
+    /// let [head, _, saddle] = ["head", "tail", "saddle"].map(|name| horse.name(name));
+    /// for part in [saddle, head, saddle] {
+    ///     horse.polygon_of_part(Kind::Face, NO_SURFACE, part, &[nose]);
+    /// }
+    /// let horse = horse.build()?;
+    /// assert!(horse.parts().eq(["head", "saddle"].map(Name::from)));
+    /// # Ok::<(), lwo::Refusal>(())
+    /// ```
+    pub fn parts(&self) -> impl Iterator<Item = Name<'_>> {
+        let mut is_part = vec![false; self.tables.names.len()];
+        for index in self.polygons().filter_map(|polygon| polygon.part_index()) {
+            is_part[index] = true;
+        }
+        let names = self.names().zip(is_part);
+        names.filter_map(|(name, is_part)| is_part.then_some(name))
+    }
+
     /// The tables that hold the mesh.
     pub fn tables(&self) -> &Tables {
         &self.tables
@@ -198,15 +241,15 @@ impl Mesh {
     }
 }
 
-/// A length that no canonical file of these tables is above: every polygon in chunks of its own
-/// and tagged, every index in four bytes, every name defined, every length odd.
+/// A length that no canonical file of these tables is above: every polygon in chunks of its own,
+/// with a surface and a part, every index in four bytes, every name defined, every length odd.
 fn longest(tables: &Tables) -> usize {
     const FORM: usize = 12;
     const HEADER: usize = 8;
     const INDEX: usize = 4;
     const WORD: usize = 4;
-    // POLS: header, type, count; PTAG: header, type, polygon, tag.
-    const POLYGON: usize = (HEADER + 4 + 2) + (HEADER + 4 + INDEX + 2);
+    // POLS: header, type, count; PTAG, of SURF and of PART: header, type, polygon, tag.
+    const POLYGON: usize = (HEADER + 4 + 2) + 2 * (HEADER + 4 + INDEX + 2);
     // The terminator and a pad, in TAGS; header, source, sub-chunks and the same, in SURF: less
     // than this.
     const NAME: usize = 128;

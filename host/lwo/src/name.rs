@@ -1,4 +1,4 @@
-//! Names of surfaces.
+//! Names of surfaces and of parts.
 
 use std::borrow::Cow;
 use std::fmt;

@@ -32,8 +32,8 @@ impl Kind {
     }
 }
 
-/// A polygon of a mesh. It will be given more than this, so it cannot be taken apart or made by
-/// its fields alone.
+/// A polygon of a mesh. It may be given more than this, so it cannot be taken apart or made by its
+/// fields alone.
 #[derive(Clone, Copy, Debug, PartialEq, Eq, Hash)]
 #[non_exhaustive]
 pub struct Polygon<'a> {
@@ -41,6 +41,9 @@ pub struct Polygon<'a> {
     pub kind: Kind,
     /// The surface number: 0 none, else 1 for the mesh's first name.
     pub surface: u32,
+    /// The part of the figure that the polygon belongs to, as "head" or "saddle", by the number of
+    /// its name: 0 none, else 1 for the mesh's first name. No polygon of an LWOB file has one.
+    pub part: u32,
     /// The polygon's points, by their numbers from 0 in the mesh; from 1 to 1,023 of them.
     pub vertices: &'a [u32],
 }
@@ -48,29 +51,45 @@ pub struct Polygon<'a> {
 impl<'a> Polygon<'a> {
     /// The polygon of an entry of the table.
     pub(crate) fn new(entry: &[u32; POLYGON_WORDS], vertices: &'a [u32]) -> Polygon<'a> {
-        let &[kind, _, surface] = entry;
+        let &[kind, _, surface, part] = entry;
         Polygon {
             kind: Kind::from_number(kind),
             surface,
+            part,
             vertices,
         }
     }
 
     /// Which of the mesh's names and surfaces is the polygon's, counted from 0.
     pub fn name_index(&self) -> Option<usize> {
-        self.surface.checked_sub(1).map(|index| index as usize)
+        index_of(self.surface)
     }
+
+    /// Which of the mesh's names is that of the polygon's part, counted from 0.
+    pub fn part_index(&self) -> Option<usize> {
+        index_of(self.part)
+    }
+}
+
+/// The index of a name by its number, which is 0 for none.
+fn index_of(number: u32) -> Option<usize> {
+    number.checked_sub(1).map(|index| index as usize)
 }
 
 /// How many vertices the polygon of an entry has.
 pub(crate) fn vertex_count(entry: &[u32; POLYGON_WORDS]) -> usize {
-    let &[_, count, _] = entry;
+    let &[_, count, _, _] = entry;
     count as usize
 }
 
 /// The entry of a polygon.
-pub(crate) fn entry(kind: Kind, vertex_count: u32, surface: u32) -> [u32; POLYGON_WORDS] {
-    [kind.number(), vertex_count, surface]
+pub(crate) fn entry(
+    kind: Kind,
+    vertex_count: u32,
+    surface: u32,
+    part: u32,
+) -> [u32; POLYGON_WORDS] {
+    [kind.number(), vertex_count, surface, part]
 }
 
 /// The polygons of a mesh in file order: what [`Mesh::polygons`](crate::Mesh::polygons) gives.

@@ -8,8 +8,8 @@ use crate::FILE_LIMIT;
 pub const POINT_WORDS: usize = 3;
 
 /// Words of a polygon: kind (1 face, 2 patch), vertex count, surface number (0 none, else 1 for
-/// the first name).
-pub const POLYGON_WORDS: usize = 3;
+/// the first name), and the number of the part's name (likewise).
+pub const POLYGON_WORDS: usize = 4;
 
 /// Words of a surface record: defined (0 or 1), red, green, blue, diffuse, luminosity, specular,
 /// reflection, transparency (eight levels, each the bits of an `f32`), and sides (1 or 3).

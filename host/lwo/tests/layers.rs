@@ -58,11 +58,12 @@ fn lwob_has_no_layers() {
 /// is; and no table is changed.
 #[test]
 fn no_list_is_borrowed_from_another_layer() {
-    let parts = chunk(b"PTAG", b"PART");
+    let [parts, groups] = [b"PART", b"SMGP"].map(|kind| chunk(b"PTAG", kind));
     for (chunks, place) in [
         (vec![points(), layer(), face()], 84),
         (vec![points(), face(), layer(), points(), tagging()], 148),
         (vec![points(), face(), layer(), points(), parts], 148),
+        (vec![points(), face(), layer(), points(), groups], 148),
     ] {
         let mut tables = long_tables();
         let answer = read_into(&mut tables, &file(Kind::Lwo2, &chunks));

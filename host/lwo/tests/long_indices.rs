@@ -46,6 +46,7 @@ fn a_small_index_in_four_bytes_is_refused() {
         must_be_refused(&with_vertex(&long), K::LongIndex, 46);
         let pair = join(&[&long, &u2(0)]);
         must_be_refused(&with_pair(b"SURF", &pair), K::LongIndex, 72);
+        must_be_refused(&with_pair(b"PART", &pair), K::LongIndex, 72);
         for behind in [&b""[..], b"\0\0"] {
             let level = level(&join(&[&long[..], behind]));
             must_be_refused(&with_sub_chunks(&level), K::LongIndex, 34);
@@ -59,12 +60,13 @@ fn an_index_that_is_cut_is_told_first() {
         let cut = &vx_long(0)[..bytes];
         must_be_refused(&with_vertex(cut), K::ItemCut, 46);
         must_be_refused(&with_pair(b"SURF", cut), K::ItemCut, 72);
+        must_be_refused(&with_pair(b"PART", cut), K::ItemCut, 72);
         must_be_refused(&with_sub_chunks(&level(cut)), K::ItemCut, 34);
     }
 }
 
-/// A PTAG of another type than SURF, a block and an unlisted chunk have no index that is read, and
-/// from 65,280 on an index has four bytes.
+/// A PTAG of another type than SURF and PART, a block and an unlisted chunk have no index that is
+/// read, and from 65,280 on an index has four bytes.
 #[test]
 fn other_long_indices_are_as_they_were() {
     let block = join(&[sub_chunk(b"IMAP", &string(b"a")), level(&vx_long(0))]);

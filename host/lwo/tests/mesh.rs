@@ -11,7 +11,7 @@ use cases::plain::PlainMesh;
 use cases::random::Random;
 use lwo::{
     Counts, Kind, Mesh, MeshBuilder, ReadError, Reading, Refusal, RefusalKind, Sides, Surface,
-    Tables, NO_SURFACE, POLYGON_WORDS, RECORD_WORDS,
+    Tables, NO_PART, NO_SURFACE, POLYGON_WORDS, RECORD_WORDS,
 };
 
 const FILES: usize = 900;
@@ -56,6 +56,7 @@ fn the_triangle_of_oak() {
     assert_eq!((polygon.kind, polygon.surface), (Kind::Face, 1));
     assert_eq!(polygon.vertices, [0, 1, 2]);
     assert_eq!(polygon.name_index(), Some(0));
+    assert_eq!((polygon.part, polygon.part_index()), (NO_PART, None));
 
     let surface = mesh.surfaces().next().expect("one surface");
     assert_eq!(surface.name.as_bytes(), b"Oak");
@@ -182,7 +183,8 @@ fn iterators_go_through_the_whole_mesh() {
         };
         for polygon in mesh.polygons() {
             let count = polygon.vertices.len() as u32;
-            let entry: [u32; POLYGON_WORDS] = [polygon.kind.number(), count, polygon.surface];
+            let entry: [u32; POLYGON_WORDS] =
+                [polygon.kind.number(), count, polygon.surface, polygon.part];
             again.polygons.extend(entry);
             again.vertices.extend(polygon.vertices);
         }
@@ -223,8 +225,8 @@ fn tables_that_are_no_mesh_are_refused() {
     }
 }
 
-/// A mesh whose file is as long as one of its size can be: every polygon in chunks of its own and
-/// tagged, every index in four bytes.
+/// A mesh whose file is as long as one of its size can be: every polygon in chunks of its own, with
+/// a surface and a part, every index in four bytes.
 #[test]
 fn the_longest_file_of_a_size_is_written() {
     let mut builder = MeshBuilder::new();
@@ -232,8 +234,8 @@ fn the_longest_file_of_a_size_is_written() {
     let last = last.expect("a point");
     let surface = builder.surface(&Surface::new("o"));
     for _ in 0..200 {
-        builder.polygon(Kind::Face, surface, &[last]);
-        builder.polygon(Kind::Patch, surface, &[last]);
+        builder.polygon_of_part(Kind::Face, surface, surface, &[last]);
+        builder.polygon_of_part(Kind::Patch, surface, surface, &[last]);
     }
     let mesh = builder.build().expect("a mesh");
     let file = mesh.to_lwo2().expect("a file");
@@ -282,6 +284,9 @@ fn things_are_found_by_their_numbers() {
             let name = polygon.name_index().and_then(|index| mesh.name(index));
             assert_eq!(surface.map(|surface| surface.name), name);
             assert_eq!(surface.is_none(), polygon.surface == NO_SURFACE);
+            let part = polygon.part_index().and_then(|index| mesh.name(index));
+            assert_eq!(mesh.part_of(&polygon), part);
+            assert_eq!(part.is_none(), polygon.part == NO_PART);
         }
         let past = [mesh.polygons().len(), usize::MAX];
         assert!(past.iter().all(|&number| mesh.polygon(number).is_none()));
@@ -305,7 +310,12 @@ fn a_mesh_is_built_of_plain_data() {
             assert_eq!(given, number);
         }
         for polygon in mesh.polygons() {
-            builder.polygon(polygon.kind, polygon.surface, polygon.vertices);
+            match polygon.part {
+                NO_PART => builder.polygon(polygon.kind, polygon.surface, polygon.vertices),
+                part => {
+                    builder.polygon_of_part(polygon.kind, polygon.surface, part, polygon.vertices)
+                }
+            }
         }
         assert_eq!(builder.build().as_ref(), Ok(&mesh), "seed {seed}");
     }
@@ -316,13 +326,14 @@ fn what_is_no_mesh_is_not_built() {
     let refused = Err(Refusal::new(RefusalKind::NotAMesh, 0));
     let mut builder = MeshBuilder::new();
     let point = builder.point([0.0; 3]);
-    for (kind, surface, vertices) in [
-        (Kind::Face, NO_SURFACE, &[point + 1][..]),
-        (Kind::Patch, NO_SURFACE, &[]),
-        (Kind::Face, 1, &[point]),
+    for (kind, surface, part, vertices) in [
+        (Kind::Face, NO_SURFACE, NO_PART, &[point + 1][..]),
+        (Kind::Patch, NO_SURFACE, NO_PART, &[]),
+        (Kind::Face, 1, NO_PART, &[point]),
+        (Kind::Face, NO_SURFACE, 1, &[point]),
     ] {
         let mut wrong = builder.clone();
-        wrong.polygon(kind, surface, vertices);
+        wrong.polygon_of_part(kind, surface, part, vertices);
         assert_eq!(wrong.build(), refused);
     }
     for wrong_point in [f32::NAN, f32::INFINITY] {

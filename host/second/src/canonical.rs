@@ -3,7 +3,7 @@
 //! The length is worked out first, as a sum, so that the writer can answer 18
 //! and 16 before it touches the output.
 
-use crate::found::{FACE, POLYGON_WORDS};
+use crate::found::{Tagged, FACE, POLYGON_WORDS};
 use crate::limits::LONG_INDEX;
 use crate::mesh::Mesh;
 use crate::surface::{Record, RECORD_WORDS};
@@ -28,8 +28,8 @@ pub fn canonical_length(tables: &Tables) -> u64 {
     }
     for run in Runs::over(tables) {
         length += 8 + run.polygons_length();
-        if run.is_tagged() {
-            length += 8 + run.tagging_length();
+        for tagged in run.taggings() {
+            length += 8 + run.tagging_length(tagged);
         }
     }
     for (name, record) in named_records(tables) {
@@ -50,7 +50,9 @@ pub fn put_canonical(tables: &Tables, out: &mut [u8]) {
     put_points(&mut pen, tables);
     for run in Runs::over(tables) {
         put_polygons(&mut pen, &run);
-        put_tagging(&mut pen, &run);
+        for tagged in run.taggings() {
+            put_tagging(&mut pen, &run, tagged);
+        }
     }
     put_surfaces(&mut pen, tables);
     debug_assert_eq!(pen.at, pen.out.len());
@@ -83,7 +85,7 @@ fn put_polygons(pen: &mut Pen, run: &Run) {
     pen.header(b"POLS", run.polygons_length());
     pen.put(if run.kind == FACE { b"FACE" } else { b"PTCH" });
     let mut vertices = run.vertices;
-    for &[_, count, _] in run.polygons {
+    for &[_, count, ..] in run.polygons {
         let (own, rest) = vertices.split_at(count as usize);
         vertices = rest;
         pen.u2(count as u16);
@@ -93,17 +95,15 @@ fn put_polygons(pen: &mut Pen, run: &Run) {
     }
 }
 
-/// "and a PTAG SURF for its tagged polygons, ascending". The polygon number
-/// counts from the latest POLS, which is the run's own.
-fn put_tagging(pen: &mut Pen, run: &Run) {
-    if !run.is_tagged() {
-        return;
-    }
-    pen.header(b"PTAG", run.tagging_length());
-    pen.put(b"SURF");
-    for (polygon, surface) in run.tagged() {
+/// "and a PTAG SURF for its tagged polygons, ascending"; #111: "a PTAG PART for
+/// each run with a part name". The polygon number counts from the latest POLS,
+/// which is the run's own.
+fn put_tagging(pen: &mut Pen, run: &Run, tagged: Tagged) {
+    pen.header(b"PTAG", run.tagging_length(tagged));
+    pen.put(tagged.kind());
+    for (polygon, number) in run.tagged(tagged) {
         pen.vx(polygon);
-        pen.u2((surface - 1) as u16);
+        pen.u2((number - 1) as u16);
     }
 }
 
@@ -196,22 +196,25 @@ impl Run<'_> {
         4 + counts + vertices
     }
 
-    /// The run's polygons that have a surface: their numbers in the run, and
-    /// the surface numbers.
-    fn tagged(&self) -> impl Iterator<Item = (u32, u32)> + '_ {
+    /// The run's polygons that have a surface, or a part: their numbers in the
+    /// run, and the numbers of their names.
+    fn tagged(&self, tagged: Tagged) -> impl Iterator<Item = (u32, u32)> + '_ {
         let numbered = (0u32..).zip(self.polygons);
         numbered
-            .filter(|(_, entry)| entry[2] != 0)
-            .map(|(number, entry)| (number, entry[2]))
+            .map(move |(polygon, entry)| (polygon, tagged.number(entry)))
+            .filter(|&(_, number)| number != 0)
     }
 
-    fn is_tagged(&self) -> bool {
-        self.tagged().next().is_some()
+    /// What the run has a PTAG for: the one of type PART comes "after its PTAG
+    /// SURF if any", and "Empty chunks are left out."
+    fn taggings(&self) -> impl Iterator<Item = Tagged> + '_ {
+        let all = Tagged::ALL.into_iter();
+        all.filter(|&tagged| self.tagged(tagged).next().is_some())
     }
 
-    fn tagging_length(&self) -> u64 {
-        let pairs: u64 = self.tagged().map(|(n, _)| vx_length(n) + 2).sum();
-        4 + pairs
+    fn tagging_length(&self, tagged: Tagged) -> u64 {
+        let pairs = self.tagged(tagged).map(|(n, _)| vx_length(n) + 2);
+        4 + pairs.sum::<u64>()
     }
 }
 
@@ -235,7 +238,7 @@ impl<'a> Iterator for Runs<'a> {
     type Item = Run<'a>;
 
     fn next(&mut self) -> Option<Run<'a>> {
-        let &[kind, _, _] = self.polygons.first()?;
+        let &[kind, ..] = self.polygons.first()?;
         let same = self.polygons.iter().take_while(|entry| entry[0] == kind);
         let (polygons, later) = self.polygons.split_at(same.count());
         let corners = polygons.iter().map(|entry| entry[1] as usize).sum();

@@ -11,8 +11,9 @@ use crate::limits::NAME_BYTES;
 use crate::refusal::{Fault, Flaw};
 use crate::surface::{Record, Surf, UNDEFINED};
 
-/// The words of a polygon in the lent table: kind, vertex count, surface.
-pub const POLYGON_WORDS: usize = 3;
+/// The words of a polygon in the lent table: kind, vertex count, surface, and by
+/// #111 the part: "A polygon gains a fourth number".
+pub const POLYGON_WORDS: usize = 4;
 
 /// The words of a point in the lent table.
 pub const POINT_WORDS: usize = 3;
@@ -20,6 +21,45 @@ pub const POINT_WORDS: usize = 3;
 /// "kind (1 face, 2 patch)".
 pub const FACE: u32 = 1;
 pub const PATCH: u32 = 2;
+
+/// What a polygon is tagged with. #111: "Modellers mark "head" and "saddle" with
+/// PTAG of type PART."
+#[derive(Clone, Copy, Debug, PartialEq, Eq)]
+pub enum Tagged {
+    Surface,
+    Part,
+}
+
+impl Tagged {
+    /// Both, in the order of the canonical file.
+    pub const ALL: [Tagged; 2] = [Tagged::Surface, Tagged::Part];
+
+    /// The type that a PTAG has for it.
+    pub fn kind(self) -> &'static [u8; 4] {
+        match self {
+            Tagged::Surface => b"SURF",
+            Tagged::Part => b"PART",
+        }
+    }
+
+    /// What a PTAG of this type tags polygons with, if that is kept.
+    pub fn of_kind(kind: &[u8; 4]) -> Option<Tagged> {
+        Tagged::ALL.into_iter().find(|one| one.kind() == kind)
+    }
+
+    /// The number of a polygon's entry that has it: "0 for none, else counted
+    /// from 1 in TAGS".
+    pub fn number(self, entry: &[u32; POLYGON_WORDS]) -> u32 {
+        entry[self.word()]
+    }
+
+    fn word(self) -> usize {
+        match self {
+            Tagged::Surface => 2,
+            Tagged::Part => 3,
+        }
+    }
+}
 
 /// A latest list: where it begins in the list of the whole file, and how long
 /// it is.
@@ -104,14 +144,16 @@ impl<'a> Found<'a> {
         self.polygons.reserve(bytes / smallest * POLYGON_WORDS);
     }
 
+    /// A polygon has no part until a PTAG gives it one; "LWOB gives 0".
     pub fn add_polygon(&mut self, kind: u32, count: u32, surface: u32) {
-        self.polygons.extend_from_slice(&[kind, count, surface]);
+        self.polygons.extend_from_slice(&[kind, count, surface, 0]);
     }
 
-    /// "The last tag for a polygon stands (house)": the surface number of the
-    /// file's polygon of this number is set.
-    pub fn set_surface(&mut self, polygon: u32, surface: u32) {
-        self.polygons[polygon as usize * POLYGON_WORDS + 2] = surface;
+    /// "The last tag for a polygon stands (house)", and of PART's too "the last
+    /// stands": the surface or the part of the file's polygon of this number is
+    /// set, and the other of the two stays.
+    pub fn set_tagged(&mut self, polygon: u32, tagged: Tagged, number: u32) {
+        self.polygons[polygon as usize * POLYGON_WORDS + tagged.word()] = number;
     }
 
     /// #103: LAYR "empties the latest point and polygon lists". What has been

@@ -3,8 +3,8 @@
 //! The proved library is compared with this one, so this one is written from
 //! the documents alone: document 01 is the law, with what document 02 says of
 //! numbers and places (request #101), of LAYR (#103), of the missing colour
-//! (#105) and of small indices in the long form (#107); sources 000, 001 and
-//! 003 describe LWOB, and source 002 describes LWO2.
+//! (#105), of small indices in the long form (#107) and of parts (#111);
+//! sources 000, 001 and 003 describe LWOB, and source 002 describes LWO2.
 //!
 //! The library's way is plain. [`rules`] walks the file once and gathers the
 //! mesh in lists of its own, stopping at the first fault. [`read`] then looks

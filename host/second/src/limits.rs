@@ -23,8 +23,8 @@ pub const PROGRAM_BYTES: usize = 65_536;
 pub const TABLE_ENTRIES: usize = 16_777_216;
 
 /// "a surface above the name count or 65,536" is not a mesh, because a tag is
-/// a U2 from 0.
-pub const HIGHEST_SURFACE: u32 = 65_536;
+/// a U2 from 0. #111: "A part above the name count or 65,536 is 17."
+pub const HIGHEST_TAGGED: u32 = 65_536;
 
 /// The first index that a VX holds in four bytes (source 002); since #107 one
 /// below it may not have them.

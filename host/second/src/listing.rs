@@ -46,16 +46,18 @@ fn counts(answer: &Answer) -> String {
     text
 }
 
+/// #111: "The listing adds ` part N` before ` vertices`".
 fn add_polygons(text: &mut String, answer: &Answer, tables: &Tables) {
     let mut vertices = &tables.vertices[..answer.vertices as usize];
     let entries = tables.polygons.chunks_exact(POLYGON_WORDS);
     for (number, entry) in entries.take(answer.polygons as usize).enumerate() {
-        let (kind, count, surface) = (entry[0], entry[1], entry[2]);
+        let (kind, count) = (entry[0], entry[1]);
+        let (surface, part) = (entry[2], entry[3]);
         let (own, rest) = vertices.split_at(count as usize);
         vertices = rest;
         add(
             text,
-            format_args!("polygon {number} kind {kind} surface {surface} vertices"),
+            format_args!("polygon {number} kind {kind} surface {surface} part {part} vertices"),
         );
         for vertex in own {
             add(text, format_args!(" {vertex}"));

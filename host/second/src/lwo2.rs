@@ -1,7 +1,8 @@
-//! "LWO2, listed tags" of document 01, and LAYR of request #103.
+//! "LWO2, listed tags" of document 01, LAYR of request #103, and the parts of
+//! #111.
 
 use crate::chunks::{sub_chunks, Chunk};
-use crate::found::{Found, Latest, FACE, PATCH};
+use crate::found::{Found, Latest, Tagged, FACE, PATCH};
 use crate::items::Cursor;
 use crate::refusal::{Fault, Flaw};
 use crate::surface::{Surf, Values, LWO2_MISSING};
@@ -94,19 +95,21 @@ pub fn vertex_count(cursor: &mut Cursor) -> Result<u32, Flaw> {
 /// "PTAG: needs an earlier POLS (5). Type SURF: pairs of polygon (VX) and tag
 /// (U2, from 0) into the latest POLS and the TAGS so far. ... Other types:
 /// four type bytes are required and the rest isn't judged." #103: "PTAG with no
-/// POLS since" the last LAYR is 5 too, whatever its type.
+/// POLS since" the last LAYR is 5 too, whatever its type. #111: "PART pairs are
+/// read like SURF pairs, with the same checks and numbers 10 and 11, and the
+/// last stands."
 fn take_tagging<'a>(file: &'a [u8], chunk: &Chunk, found: &mut Found<'a>) -> Result<(), Flaw> {
     let Some(polygons) = found.latest_polygons else {
         return Err(chunk.flaw(Fault::PolygonsMissing));
     };
     let mut cursor = chunk.cursor(file);
-    if &cursor.four()? != b"SURF" {
+    let Some(tagged) = Tagged::of_kind(&cursor.four()?) else {
         return Ok(());
-    }
+    };
     while !cursor.is_done() {
         let polygon = polygon_number(&mut cursor, polygons.count)?;
         let tag = tag_number(&mut cursor, found.names.len())?;
-        found.set_surface(polygons.first + polygon, tag + 1);
+        found.set_tagged(polygons.first + polygon, tagged, tag + 1);
     }
     Ok(())
 }

@@ -23,6 +23,8 @@ pub struct Polygon {
     pub kind: u32,
     /// "surface number (0 none, else 1 for the first name)".
     pub surface: u32,
+    /// #111: "part name, 0 for none, else counted from 1 in TAGS".
+    pub part: u32,
     pub vertices: Vec<u32>,
 }
 
@@ -55,7 +57,7 @@ impl Mesh {
         }
         for polygon in &self.polygons {
             let count = polygon.vertices.len() as u32;
-            let entry = [polygon.kind, count, polygon.surface];
+            let entry = [polygon.kind, count, polygon.surface, polygon.part];
             tables.polygons.extend_from_slice(&entry);
             tables.vertices.extend_from_slice(&polygon.vertices);
         }
@@ -85,6 +87,7 @@ fn polygons(words: &[u32], mut vertices: &[u32]) -> Vec<Polygon> {
         polygons.push(Polygon {
             kind: entry[0],
             surface: entry[2],
+            part: entry[3],
             vertices: own.to_vec(),
         });
     }

@@ -62,7 +62,7 @@ pub enum Fault {
     VertexNumber,
     /// 10: "surface number ... names nothing" (LWOB).
     SurfaceNumber,
-    /// 10: "tag names nothing" (LWO2).
+    /// 10: "tag names nothing" (LWO2), a surface's or a part's.
     TagNumber,
     /// 11: "polygon number not below the latest POLS's count".
     PolygonNumber,

@@ -4,8 +4,8 @@ use crate::found::{POINT_WORDS, POLYGON_WORDS};
 use crate::surface::RECORD_WORDS;
 
 /// The tables that a caller lends. Their lengths are the room, whatever they
-/// hold. A point is 3 words, a polygon 3 (kind, vertex count, surface), a name
-/// its length, a record 10 (defined, red, green, blue, diffuse, luminosity,
+/// hold. A point is 3 words, a polygon 4 (kind, vertex count, surface, part), a
+/// name its length, a record 10 (defined, red, green, blue, diffuse, luminosity,
 /// specular, reflection, transparency, sides), levels as f32 bits.
 #[derive(Clone, Debug, Default, PartialEq, Eq)]
 pub struct Tables {

@@ -5,7 +5,7 @@ use std::collections::HashSet;
 use crate::canonical::{canonical_length, put_canonical};
 use crate::found::{FACE, PATCH, POINT_WORDS, POLYGON_WORDS};
 use crate::items::is_finite;
-use crate::limits::{FILE_BYTES, HIGHEST_SURFACE, LWO2_VERTICES, NAME_BYTES, TABLE_ENTRIES};
+use crate::limits::{FILE_BYTES, HIGHEST_TAGGED, LWO2_VERTICES, NAME_BYTES, TABLE_ENTRIES};
 use crate::reader::NO_ROOM;
 use crate::surface::{Record, RECORD_WORDS, UNDEFINED};
 use crate::tables::Tables;
@@ -57,6 +57,7 @@ fn answer(number: u64, length: u64) -> Written {
 /// outside its range; a surface above the name count or 65,536; a name over
 /// 255 bytes, with a zero byte, or equal to an earlier one; a float not
 /// finite; an undefined record with other than the missing values, by bits."
+/// #111: "A part above the name count or 65,536 is 17."
 pub fn is_mesh(tables: &Tables) -> bool {
     entries_are_whole(tables)
         && entries_are_few(tables)
@@ -105,13 +106,14 @@ fn polygon_entries(tables: &Tables) -> &[[u32; POLYGON_WORDS]] {
 }
 
 fn polygons_are_good(tables: &Tables) -> bool {
-    let highest = (tables.names.len() as u32).min(HIGHEST_SURFACE);
+    let highest = (tables.names.len() as u32).min(HIGHEST_TAGGED);
     polygon_entries(tables)
         .iter()
-        .all(|&[kind, count, surface]| {
+        .all(|&[kind, count, surface, part]| {
             (kind == FACE || kind == PATCH)
                 && (1..=LWO2_VERTICES).contains(&count)
                 && surface <= highest
+                && part <= highest
         })
 }
 

@@ -57,9 +57,11 @@ fn long_pairs() -> Vec<u8> {
 /// "Other types: four type bytes are required and the rest isn't judged."
 fn add_other_types(list: &mut Vec<Accepted>) {
     let (two, words) = points(2, HALF);
-    let types: [(&str, Tag); 5] = [
-        ("part", *b"PART"),
+    let types: [(&str, Tag); 7] = [
         ("smgp", *b"SMGP"),
+        ("colr", *b"COLR"),
+        ("lowercase-part", *b"part"),
+        ("paru", *b"PARU"),
         ("lowercase", *b"surf"),
         ("surg", *b"SURG"),
         ("index", [255, 0, 0, 0]),
@@ -200,6 +202,7 @@ fn add_lwob(list: &mut Vec<Accepted>) {
         one,
         name_list(Kind::Lwob, &[b"a"]),
         chunk(b"PTAG", &join(&[&b"SURF"[..], &long_pairs()])),
+        chunk(b"PTAG", &join(&[&b"PART"[..], &long_pairs()])),
         chunk(b"POLS", &face),
     ];
     let mut mesh = PlainMesh {
@@ -210,5 +213,5 @@ fn add_lwob(list: &mut Vec<Accepted>) {
     mesh.add_name(b"a", &UNDEFINED);
     let name = "long-pairs-in-skipped-ptag";
     add(list, Kind::Lwob, name, &chunks, mesh);
-    list.last_mut().expect("a file").skipped = 1;
+    list.last_mut().expect("a file").skipped = 2;
 }

@@ -130,7 +130,7 @@ fn add_own_lists(list: &mut Vec<Accepted>) {
         two.clone(),
         polygons(b"FACE", &[&[0, 1], &[1]]),
         tagging(&[(1, 1)]),
-        other_tagging(b"PART"),
+        other_tagging(b"PARU"),
         child.chunk(),
         three,
         polygons(b"PTCH", &[&[2], &[0, 1, 2]]),
@@ -216,7 +216,7 @@ fn add_empty_lists(list: &mut Vec<Accepted>) {
         points(0, 0).0,
         polygons(b"PTCH", &[]),
         tagging(&[]),
-        other_tagging(b"PART"),
+        other_tagging(b"PARU"),
     ];
     let all = [&chunks[..], &later].concat();
     add(list, Kind::Lwo2, "layer-with-empty-lists", &all, mesh);

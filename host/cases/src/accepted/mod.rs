@@ -3,6 +3,7 @@
 
 mod indices;
 mod layers;
+mod parts;
 
 use crate::assemble::{chunk, f4, form, i2, join, string, sub_chunk, u2, vx_long, vx_short};
 use crate::assemble::{Kind, Tag};
@@ -35,6 +36,7 @@ pub fn accepted() -> Vec<Accepted> {
     add_skipped(&mut list);
     layers::add_layers(&mut list);
     indices::add_indices(&mut list);
+    parts::add_parts(&mut list);
     list
 }
 
@@ -374,8 +376,13 @@ fn polygons(kind: &Tag, entries: &[&[u32]]) -> Vec<u8> {
     chunk(b"POLS", &body)
 }
 
+/// A PTAG of type SURF.
 fn tagging(pairs: &[(u32, u16)]) -> Vec<u8> {
-    let mut body = b"SURF".to_vec();
+    tagging_of(b"SURF", pairs)
+}
+
+fn tagging_of(kind: &Tag, pairs: &[(u32, u16)]) -> Vec<u8> {
+    let mut body = kind.to_vec();
     for &(polygon, tag) in pairs {
         body.extend(join(&[vx_short(polygon), u2(tag)]));
     }
@@ -478,7 +485,7 @@ fn add_polygons(list: &mut Vec<Accepted>) {
 
     for bit in 10..16 {
         let body = join(&[&b"FACE"[..], &u2(1 | 1 << bit), &vx_short(2)]);
-        let tagging = chunk(b"PTAG", b"PARTodd");
+        let tagging = chunk(b"PTAG", b"SMGPodd");
         let chunks = [three.clone(), chunk(b"POLS", &body), tagging];
         let mut mesh = PlainMesh {
             points: words.clone(),

@@ -1,6 +1,7 @@
 //! 5: "something that must come earlier is missing, or a single chunk comes
 //! twice".
 
+use super::polygons::TAGGINGS;
 use super::settings::{layer, names, points, two_faces, Setting};
 use super::{Catalogue, Fault};
 use crate::assemble::{chunk, join, u2, vx, Kind};
@@ -83,8 +84,11 @@ fn add_lwo2(catalogue: &mut Catalogue) {
         let name = format!("ptag-{name}-without-pols");
         catalogue.add_chunk(&name, &ready, &tagging, fault());
     }
-    let too_late = join(&[chunk(b"PTAG", b"SURF"), two_faces()]);
-    catalogue.add_chunk("pols-too-late", &ready, &too_late, fault());
+    for (word, kind) in TAGGINGS {
+        let too_late = join(&[chunk(b"PTAG", kind), two_faces()]);
+        let name = format!("{word}pols-too-late");
+        catalogue.add_chunk(&name, &ready, &too_late, fault());
+    }
 }
 
 /// POLS chunks, good or not: 5 is judged before the body.
@@ -94,14 +98,16 @@ fn some_polygons() -> [(&'static str, Vec<u8>); 3] {
 }
 
 /// PTAG chunks of several types, good or not.
-fn some_taggings() -> [(&'static str, Vec<u8>); 5] {
-    let pair = join(&[&b"SURF"[..], &vx(0), &u2(0)]);
+fn some_taggings() -> [(&'static str, Vec<u8>); 7] {
+    let [pair, part_pair] = [b"SURF", b"PART"].map(|kind| join(&[&kind[..], &vx(0), &u2(0)]));
     [
         ("empty", &b""[..]),
         ("cut-type", b"SU"),
         ("type", b"SURF"),
         ("part", b"PART"),
+        ("smgp", b"SMGP"),
         ("pair", &pair),
+        ("part-pair", &part_pair),
     ]
     .map(|(name, body)| (name, chunk(b"PTAG", body)))
 }

@@ -1,7 +1,7 @@
 //! Targeted files: for every refusal number a file at every place where
 //! document 01 allows it. What each must answer is said here, from that
-//! document and from requests #101, #103 and #107 of document 02, and worked out
-//! by no reader.
+//! document and from requests #101, #103, #107 and #111 of document 02, and
+//! worked out by no reader.
 
 mod body;
 mod forms;
@@ -13,6 +13,7 @@ mod layers;
 mod missing;
 mod names;
 mod order;
+mod parts;
 mod places;
 mod polygons;
 mod settings;
@@ -51,6 +52,7 @@ pub fn targeted() -> Vec<Targeted> {
     indices::add(&mut catalogue);
     index_order::add(&mut catalogue);
     order::add(&mut catalogue);
+    parts::add(&mut catalogue);
     places::add(&mut catalogue);
     catalogue.list
 }

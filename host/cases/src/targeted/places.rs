@@ -6,6 +6,7 @@
 //! where nothing is left.
 
 use super::headers::{surf, surf_front};
+use super::polygons::TAGGINGS;
 use super::settings::Setting;
 use super::surfaces::{FIXED, VALUES};
 use super::{Catalogue, Fault, KINDS};
@@ -29,6 +30,9 @@ pub fn add(catalogue: &mut Catalogue) {
     add_pads_in_the_middle(catalogue);
     add_later_blocks(catalogue);
     add_later_lists(catalogue);
+    for (word, kind) in TAGGINGS {
+        add_later_pairs(catalogue, word, kind);
+    }
 }
 
 fn fault(number: u64, offset: usize) -> Fault {
@@ -83,6 +87,7 @@ fn add_missing_before_a_chunk(catalogue: &mut Catalogue) {
     let open_detail = [u2(1), u2(0), i2(-1), u2(1)];
     let corner = join(&[&b"FACE"[..], &u2(1)]);
     let pair = join(&[&b"SURF"[..], &vx_short(0)]);
+    let part_pair = join(&[&b"PART"[..], &vx_short(0)]);
     let level = sub_chunk(b"DIFF", &[]);
     let block = sub_chunk(b"BLOK", &sub_chunk(b"GRAD", &[]));
     let rows: Vec<(&str, &Setting, Vec<u8>, u64)> = vec![
@@ -96,6 +101,7 @@ fn add_missing_before_a_chunk(catalogue: &mut Catalogue) {
         ("vertex", &lwo2, chunk(b"POLS", &corner), 19),
         ("tagging-type", &tagged, chunk(b"PTAG", &[]), 19),
         ("tag", &tagged, chunk(b"PTAG", &pair), 19),
+        ("part-tag", &tagged, chunk(b"PTAG", &part_pair), 19),
         ("surf-name", &lwo2, chunk(b"SURF", &[]), 20),
         ("surf-source", &lwo2, chunk(b"SURF", &string(b"a")), 20),
         ("level", &lwo2, surf(Kind::Lwo2, &[&level]), 19),
@@ -334,26 +340,17 @@ fn add_later_blocks(catalogue: &mut Catalogue) {
     }
 }
 
-/// A later list of polygons or pairs: an index in four bytes, or a number in
-/// two, is cut after good ones.
+/// A later list of polygons: an index in four bytes, or a number in two, is cut
+/// after good ones.
 fn add_later_lists(catalogue: &mut Catalogue) {
     let tagged = Setting::lwo2_polygons();
     let face = join(&[&b"FACE"[..], &u2(2), &vx_short(2)]);
-    let pair = join(&[&b"SURF"[..], &vx_short(1), &u2(1)]);
-    let once_tagged = tagged.clone().with(chunk(b"PTAG", &pair));
     for there in 0..4 {
         let index = &vx_long(1)[..there];
         let name = format!("place-later-vertex-cut-to-{there}");
         let later = chunk(b"POLS", &join(&[&face[..], index]));
         let offset = CHUNK + face.len();
         catalogue.add_chunk(&name, &tagged, &later, fault(19, offset));
-        // No byte of a pair at all is no pair.
-        if there > 0 {
-            let name = format!("place-later-polygon-cut-to-{there}");
-            let later = chunk(b"PTAG", &join(&[&pair[..], index]));
-            let offset = CHUNK + pair.len();
-            catalogue.add_chunk(&name, &once_tagged, &later, fault(19, offset));
-        }
     }
     let whole = join(&[u2(1), u2(2), i2(2)]);
     let listed = Setting::lwob().with(chunk(b"POLS", &whole));
@@ -365,5 +362,18 @@ fn add_later_lists(catalogue: &mut Catalogue) {
             let offset = CHUNK + front.len();
             catalogue.add_chunk(&name, &listed, &later, fault(19, offset));
         }
+    }
+}
+
+/// The same in a later list of pairs, behind a whole pair. No byte of a pair at
+/// all is no pair.
+fn add_later_pairs(catalogue: &mut Catalogue, word: &str, kind: &Tag) {
+    let pair = join(&[&kind[..], &vx_short(1), &u2(1)]);
+    let once_tagged = Setting::lwo2_polygons().with(chunk(b"PTAG", &pair));
+    for there in 1..4 {
+        let name = format!("place-later-{word}polygon-cut-to-{there}");
+        let later = chunk(b"PTAG", &join(&[&pair[..], &vx_long(1)[..there]]));
+        let offset = CHUNK + pair.len();
+        catalogue.add_chunk(&name, &once_tagged, &later, fault(19, offset));
     }
 }

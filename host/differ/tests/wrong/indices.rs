@@ -3,7 +3,7 @@
 //! included".
 
 use second::chunks::{sub_chunks, Chunk};
-use second::found::{Found, Latest};
+use second::found::{Found, Latest, Tagged};
 use second::items::Cursor;
 use second::refusal::Flaw;
 use second::surface::{Surf, Values, LWO2_MISSING};
@@ -130,17 +130,17 @@ impl Ways {
             return lwo2::take(file, chunk, found);
         };
         let mut cursor = chunk.cursor(file);
-        if &cursor.four()? != b"SURF" {
+        let Some(tagged) = Tagged::of_kind(&cursor.four()?) else {
             return match self.in_any_type {
                 true => self.look_at_pairs(file, cursor),
                 false => Ok(()),
             };
-        }
+        };
         while !cursor.is_done() {
             let bound = (polygons.count, Fault::PolygonNumber);
             let polygon = self.number(file, &mut cursor, Index::Polygon, bound)?;
             let tag = lwo2::tag_number(&mut cursor, found.names.len())?;
-            found.set_surface(polygons.first + polygon, tag + 1);
+            found.set_tagged(polygons.first + polygon, tagged, tag + 1);
         }
         Ok(())
     }

@@ -2,7 +2,7 @@
 //! for LWO2.
 
 use second::chunks::Chunk;
-use second::found::Found;
+use second::found::{Found, Tagged};
 use second::items::Cursor;
 use second::refusal::Flaw;
 use second::{lwo2, lwob, Fault};
@@ -78,7 +78,8 @@ fn one_that_empties_too_little() {
     });
     // A PTAG of another type that goes by any earlier POLS.
     must_find_lwo2(|file, chunk, found| {
-        let other = matches!(chunk.cursor(file).four(), Ok(kind) if &kind != b"SURF");
+        let kind = chunk.cursor(file).four();
+        let other = kind.is_ok_and(|kind| Tagged::of_kind(&kind).is_none());
         match &chunk.tag == b"PTAG" && other && found.polygon_count() > 0 {
             true => Ok(()),
             false => lwo2::take(file, chunk, found),

@@ -3,6 +3,7 @@
 
 mod indices;
 mod layers;
+mod parts;
 mod reader;
 
 use cases::random::Random;

@@ -12,7 +12,8 @@ lwo reads LightWave object files of the kinds LWOB and LWO2.
                          -v tells also which chunks were skipped
   lwo boards FILE...     print for each surface name its faces, patches and
                          vertices, the size of the panel in millimetres and the
-                         colour; and the counts of all files together
+                         colour, part by part where the file names the parts of
+                         a figure; and the counts of all files together
   lwo list FILE...       print what each file holds: its counts and polygons
   lwo canonical IN OUT   read IN and write what it holds to OUT, as an LWO2 file
                          in the one canonical form
@@ -49,7 +50,7 @@ What is written:
   Curves, vertex maps, clips, envelopes, textures, smoothing angles and layers
   are not kept, so they are not in OUT.
 
-In names of files and surfaces, what cannot be seen is written as in \\n,
+In names of files, surfaces and parts, what cannot be seen is written as in \\n,
 \\u{202e} or \\xe4, and a backslash is doubled.
 
 Examples:

@@ -78,10 +78,10 @@ fn print_counts(counts: &Counts, out: &mut impl Write) -> io::Result<()> {
 }
 
 fn print_polygon(number: usize, polygon: &Polygon, out: &mut impl Write) -> io::Result<()> {
-    let (kind, surface) = (polygon.kind.number(), polygon.surface);
+    let (kind, surface, part) = (polygon.kind.number(), polygon.surface, polygon.part);
     write!(
         out,
-        "polygon {number} kind {kind} surface {surface} vertices"
+        "polygon {number} kind {kind} surface {surface} part {part} vertices"
     )?;
     for vertex in polygon.vertices {
         write!(out, " {vertex}")?;
@@ -94,6 +94,7 @@ fn print_json(source: &Source, reading: &Reading, out: &mut impl Write) -> io::R
         json::Object::new()
             .with("kind", polygon.kind.number())
             .with("surface", polygon.surface)
+            .with("part", polygon.part)
             .with(
                 "vertices",
                 array(polygon.vertices.iter().map(u32::to_string)),

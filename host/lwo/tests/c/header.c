@@ -26,6 +26,11 @@ static const uint8_t CASE_L[] = {
     'P', 'T', 'A', 'G', 0, 0, 0, 8, 'S', 'U', 'R', 'F', 0, 0, 0, 0,
 };
 
+/* What case l has behind it where its name is the polygon's part too. */
+static const uint8_t PART[] = {
+    'P', 'T', 'A', 'G', 0, 0, 0, 8, 'P', 'A', 'R', 'T', 0, 0, 0, 0,
+};
+
 static int faults = 0;
 
 static void same(const char *what, uint64_t found, uint64_t wanted)
@@ -119,7 +124,7 @@ typedef struct Tables {
 /* The mesh of case l, as its listing has it, and a guard behind each table. */
 static const Tables MESH_L = {
     {0, 0, 0, 0x3f800000, 0, 0, 0, 0x40000000, 0, GUARD},
-    {LWO_FACE, 3, 1, GUARD},
+    {LWO_FACE, 3, 1, 0, GUARD},
     {0, 1, 2, GUARD},
     {3, GUARD},
     {'O', 'a', 'k', GUARD},
@@ -206,7 +211,56 @@ static void writes_in_two_calls(void)
     same("the byte past the file", out[sizeof CASE_L], GUARD);
 }
 
-/* A vertex that names no point, and a colour where no surface is defined. */
+/* Case l with its name as a part: of type PART, or of another type. */
+typedef struct Parted {
+    uint8_t file[sizeof CASE_L + sizeof PART];
+} Parted;
+
+static Parted parted(const char *type)
+{
+    Parted made;
+    memcpy(made.file, CASE_L, sizeof CASE_L);
+    memcpy(made.file + sizeof CASE_L, PART, sizeof PART);
+    memcpy(made.file + sizeof CASE_L + 8, type, 4);
+    made.file[7] = (uint8_t)(sizeof made.file - 8);
+    return made;
+}
+
+/* The mesh of case l with this part. */
+static Tables mesh_with_part(uint32_t part)
+{
+    Tables tables = MESH_L;
+    tables.polygons[LWO_POLYGON_PART] = part;
+    return tables;
+}
+
+/* The part is the polygon's fourth word; what another type says is not kept. */
+static void reads_a_part(const char *type, uint32_t part)
+{
+    Parted whole = parted(type);
+    Tables tables = other_tables(), wanted = mesh_with_part(part);
+    LwoAnswer answer = read_into(&tables, whole.file, sizeof whole.file);
+    same("a file with a part", answer.number, LWO_ACCEPTED);
+    same_counts(answer);
+    same_tables(&tables, &wanted);
+}
+
+/* The canonical file has the part behind the surface. */
+static void writes_a_part(void)
+{
+    Parted whole = parted("PART");
+    Tables tables = mesh_with_part(1);
+    uint8_t out[sizeof whole.file + 1];
+    memset(out, GUARD, sizeof out);
+    LwoWritten written = write_from(&tables, out, sizeof out);
+    same("a mesh with a part", written.number, LWO_ACCEPTED);
+    same("its length", written.length, sizeof whole.file);
+    same_bytes("its canonical file", out, whole.file, sizeof whole.file);
+    same("the byte past it", out[sizeof whole.file], GUARD);
+}
+
+/* A vertex that names no point, a part that is no name, and a colour where no
+   surface is defined. */
 static void refuses_to_write(void)
 {
     uint8_t out[sizeof CASE_L];
@@ -218,6 +272,10 @@ static void refuses_to_write(void)
     same("their place", written.place, 0);
     same("their length", written.length, 0);
     same("an output after a refusal", out[0], GUARD);
+
+    tables = mesh_with_part(2);
+    written = write_from(&tables, out, sizeof out);
+    same("a part above the name count", written.number, LWO_NOT_A_MESH);
 
     tables = MESH_L;
     for (int level = 1; level <= 3; level++)
@@ -270,6 +328,24 @@ static void refuses_to_read(void)
     refuses_byte(95, 9, LWO_CHUNK, 88);
 }
 
+/* So is case l with a part, with one byte of its PTAG changed. */
+static void refuses_part_byte(size_t byte, uint8_t value, uint64_t number,
+                              uint64_t place)
+{
+    Parted whole = parted("PART");
+    whole.file[byte] = value;
+    refuses(whole.file, sizeof whole.file, number, place);
+}
+
+static void refuses_a_part(void)
+{
+    /* The polygon, at 116, has four bytes, or is a second one. */
+    refuses_part_byte(116, 255, LWO_LONG_INDEX, 116);
+    refuses_part_byte(117, 1, LWO_POLYGON_NUMBER, 116);
+    /* The tag, at 118, is a second name. */
+    refuses_part_byte(119, 1, LWO_SURFACE, 118);
+}
+
 /* A layer with the name Lid. */
 static const uint8_t LAYER[] = {
     'L', 'A', 'Y', 'R', 0, 0, 0, 20, 0, 0, 0, 0,
@@ -320,6 +396,10 @@ int main(void)
     reads_a_layer();
     refuses_to_borrow(68); /* POLS: points */
     refuses_to_borrow(88); /* PTAG: polygons */
+    reads_a_part("PART", 1);
+    reads_a_part("SMGP", 0);
+    writes_a_part();
+    refuses_a_part();
     refuses_to_write();
     return faults == 0 ? 0 : 1;
 }

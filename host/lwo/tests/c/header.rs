@@ -58,6 +58,7 @@ fn the_header_and_the_crate_agree() {
         ("LWO_POINT_WORDS", lwo::POINT_WORDS),
         ("LWO_POLYGON_WORDS", lwo::POLYGON_WORDS),
         ("LWO_RECORD_WORDS", lwo::RECORD_WORDS),
+        ("LWO_POLYGON_PART", lwo::POLYGON_WORDS - 1),
     ] {
         assert_eq!(defined(name), value.to_string(), "{name}");
     }
@@ -113,6 +114,15 @@ fn the_example_prints_the_boards_of_a_file() {
 "Ash": 0 faces, 1 patches, 4 vertices, 1200.000 x 600.000 x 0.000 mm
 "#;
     assert_eq!(succeed(&mut of("panel.lwo")), panel);
+    let horse = r#""Oak", part "head": 1 faces, 0 patches, 4 vertices, 500.000 x 400.000 x 0.000 mm
+"Pine", part "head": 1 faces, 0 patches, 4 vertices, 400.000 x 400.000 x 0.000 mm
+no surface, part "head": 1 faces, 0 patches, 3 vertices, 40.000 x 40.000 x 0.000 mm
+"Oak", part "saddle": 1 faces, 0 patches, 4 vertices, 200.000 x 300.000 x 0.000 mm
+"Pine", part "saddle": 0 faces, 1 patches, 4 vertices, 300.000 x 0.000 x 300.000 mm
+"Oak": 2 faces, 0 patches, 8 vertices, 800.000 x 600.000 x 0.000 mm
+"Pine": 1 faces, 0 patches, 4 vertices, 800.000 x 400.000 x 0.000 mm
+"#;
+    assert_eq!(succeed(&mut of("horse.lwo")), horse);
     let refused = of("damaged.lwo").output().expect("it starts");
     assert_eq!(refused.status.code(), Some(1));
     assert_eq!(refused.stderr, b"damaged.lwo: refused 9 at 86\n");

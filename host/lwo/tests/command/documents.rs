@@ -133,7 +133,7 @@ fn the_readme_shows_what_the_command_prints() {
 #[test]
 fn the_samples_are_told_as_the_command_prints_them() {
     let shown = shown_in(&document("samples/README.md"));
-    assert_eq!(shown.len(), 2);
+    assert_eq!(shown.len(), 3);
     must_print(&folder_of_samples("samples-readme"), shown);
 }
 

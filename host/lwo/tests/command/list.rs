@@ -7,7 +7,8 @@ use cases::files::files;
 
 use crate::help::{folder_with, lwo, run, run_with_input, sample, samples, Run};
 
-/// What document 01 says that the program prints for case l.
+/// What document 01 says that the program prints for case l, with the part of request #111: "The
+/// listing adds ` part N` before ` vertices`, in case l ` part 0`."
 const CASE_L: &str = "\
 accepted
 points 3
@@ -17,7 +18,7 @@ names 1
 name-bytes 3
 skipped 0
 details 0
-polygon 0 kind 1 surface 1 vertices 0 1 2
+polygon 0 kind 1 surface 1 part 0 vertices 0 1 2
 ";
 
 #[test]
@@ -26,6 +27,24 @@ fn case_l_is_listed_as_document_01_has_it() {
         run(&samples(), &["list", "oak.lwo"]),
         Run::new(0, CASE_L, "")
     );
+}
+
+/// The names are "Oak", "Pine", "head" and "saddle".
+#[test]
+fn the_parts_of_a_horse_are_listed() {
+    let listed = run(&samples(), &["list", "horse.lwo"]);
+    let polygons = "
+polygon 2 kind 1 surface 1 part 0 vertices 7 8 1 9
+polygon 3 kind 1 surface 2 part 3 vertices 10 2 11 12
+polygon 4 kind 1 surface 1 part 3 vertices 12 13 14 15
+polygon 5 kind 1 surface 0 part 3 vertices 16 17 18
+polygon 6 kind 1 surface 1 part 4 vertices 19 20 21 22
+polygon 7 kind 2 surface 2 part 4 vertices 23 24 25 26
+";
+    assert!(listed.printed.ends_with(polygons), "{listed:?}");
+    let polygon = r#"{"kind":1,"surface":0,"part":3,"vertices":[16,17,18]}"#;
+    let listed = run(&samples(), &["list", "--json", "horse.lwo"]);
+    assert!(listed.printed.contains(polygon), "{listed:?}");
 }
 
 #[test]
@@ -59,7 +78,7 @@ fn two_files_are_several() {
 fn a_listing_as_json() {
     let printed = "{\"file\":\"oak.lwo\",\"accepted\":true,\"points\":3,\"polygons\":1,\
 \"vertices\":3,\"names\":1,\"name_bytes\":3,\"skipped\":0,\"details\":0,\
-\"polygon_list\":[{\"kind\":1,\"surface\":1,\"vertices\":[0,1,2]}]}
+\"polygon_list\":[{\"kind\":1,\"surface\":1,\"part\":0,\"vertices\":[0,1,2]}]}
 {\"file\":\"none.lwo\",\"accepted\":false,\"not_read\":\"there is no such file\"}
 ";
     let listed = run(&samples(), &["list", "--json", "oak.lwo", "none.lwo"]);

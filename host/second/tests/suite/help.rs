@@ -3,6 +3,7 @@
 use cases::mutate::mutated;
 use cases::random::Random;
 use cases::valid::valid;
+use second::found::POLYGON_WORDS;
 use second::{read, rules, Answer, Mesh, Tables};
 
 /// The bytes of a hexadecimal text; blanks and newlines are passed over.
@@ -44,7 +45,7 @@ pub fn exact_room(needs: &Answer) -> Tables {
 pub fn filled_room(needs: &Answer, more: [usize; 6]) -> Tables {
     Tables {
         points: vec![0xdead_beef; needs.points as usize * 3 + more[0]],
-        polygons: vec![0xdead_beef; needs.polygons as usize * 3 + more[1]],
+        polygons: vec![0xdead_beef; needs.polygons as usize * POLYGON_WORDS + more[1]],
         vertices: vec![0xdead_beef; needs.vertices as usize + more[2]],
         names: vec![0xdead_beef; needs.names as usize + more[3]],
         name_bytes: vec![0xa5; needs.name_bytes as usize + more[4]],

@@ -29,13 +29,16 @@ fn with_vertex(index: &str) -> Vec<u8> {
     file_of(&[points, polygons])
 }
 
-/// A name, one point, a face of it, and a pair whose polygon number has these
-/// bytes, at 70, and whose tag is the first.
-fn with_polygon(index: &str) -> Vec<u8> {
+/// The types SURF and PART of a PTAG, of which the polygon numbers are read.
+const TYPES: [&str; 2] = ["53555246", "50415254"];
+
+/// A name, one point, a face of it, and a pair of this type whose polygon number
+/// has these bytes, at 70, and whose tag is the first.
+fn with_polygon(kind: &str, index: &str) -> Vec<u8> {
     let names = chunk_of("TAGS", "6100");
     let points = chunk_of("PNTS", "00000000 00000000 00000000");
     let polygons = chunk_of("POLS", "46414345 0001 0000");
-    let pair = chunk_of("PTAG", &format!("53555246 {index} 0000"));
+    let pair = chunk_of("PTAG", &format!("{kind} {index} 0000"));
     file_of(&[names, points, polygons, pair])
 }
 
@@ -88,7 +91,9 @@ fn worked_by_hand() {
     ];
     for (index, vertex, polygon, envelope) in rows {
         assert_eq!(verdict(&with_vertex(index)), vertex, "{index}");
-        assert_eq!(verdict(&with_polygon(index)), polygon, "{index}");
+        for kind in TYPES {
+            assert_eq!(verdict(&with_polygon(kind, index)), polygon, "{index}");
+        }
         assert_eq!(verdict(&with_envelope(index)), envelope, "{index}");
     }
 }
@@ -100,11 +105,13 @@ fn cut_ones() {
     for index in ["ff", "ff00", "ff0000", "ff00ff"] {
         assert_eq!(verdict(&with_vertex(index)), "refused 19 at 46");
         assert_eq!(verdict(&with_envelope(index)), "refused 19 at 34");
-        let mut file = with_polygon("");
-        file.truncate(58);
-        file.extend(chunk_of("PTAG", &format!("53555246 {index}")));
-        cases::insert::correct_form_length(&mut file);
-        assert_eq!(verdict(&file), "refused 19 at 70");
+        for kind in TYPES {
+            let mut file = with_polygon(kind, "");
+            file.truncate(58);
+            file.extend(chunk_of("PTAG", &format!("{kind} {index}")));
+            cases::insert::correct_form_length(&mut file);
+            assert_eq!(verdict(&file), "refused 19 at 70");
+        }
     }
 }
 
@@ -129,10 +136,13 @@ fn lwo2_files() -> impl Iterator<Item = Vec<u8>> {
     files.filter(|file| kind_of(file) == Kind::Lwo2)
 }
 
-/// The chunk or sub-chunk that an index lies in.
+/// The chunk or sub-chunk that an index lies in, or the type of a PTAG.
 fn holder(file: &[u8], index: &Index) -> [u8; 4] {
-    let at = index.sub.unwrap_or(index.chunk);
-    file[at..at + 4].try_into().expect("four bytes")
+    let tag = |at: usize| file[at..at + 4].try_into().expect("four bytes");
+    match &tag(index.sub.unwrap_or(index.chunk)) {
+        b"PTAG" => tag(index.chunk + 8),
+        other => *other,
+    }
 }
 
 /// Each short index by itself in the long form: 22 at its first byte, in the
@@ -154,7 +164,7 @@ fn one_long_form_anywhere() {
     }
     let holders: Vec<&[u8; 4]> = places.keys().collect();
     let known = [
-        b"COLR", b"DIFF", b"LUMI", b"POLS", b"PTAG", b"REFL", b"SPEC", b"TRAN",
+        b"COLR", b"DIFF", b"LUMI", b"PART", b"POLS", b"REFL", b"SPEC", b"SURF", b"TRAN",
     ];
     assert_eq!(holders, known);
     assert!(places.values().all(|&times| times > 100), "{places:?}");

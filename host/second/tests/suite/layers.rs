@@ -43,8 +43,8 @@ names 1
 name-bytes 3
 skipped 0
 details 0
-polygon 0 kind 1 surface 1 vertices 0
-polygon 1 kind 2 surface 1 vertices 1 2
+polygon 0 kind 1 surface 1 part 0 vertices 0
+polygon 1 kind 2 surface 1 part 0 vertices 1 2
 ";
     assert_eq!(listing(&file_of(&[BEFORE, POINTS, PATCH, TAGGING])), lines);
 }

@@ -68,10 +68,15 @@ fn check_refused(seed: u64, file: &[u8], told: &Answer) {
 
 /// How often each number is told of a chunk with this tag.
 fn numbers_of(tag: &[u8; 4]) -> BTreeMap<u64, u64> {
+    numbers_where(|chunk| chunk.starts_with(tag))
+}
+
+/// The same of the chunks of which this holds, the rest of the file behind them.
+fn numbers_where(holds: impl Fn(&[u8]) -> bool) -> BTreeMap<u64, u64> {
     let mut numbers = BTreeMap::new();
     for file in (0..FILES).map(mutation) {
         if let Err(refusal) = rules(&file) {
-            if file[refusal.chunk as usize..].starts_with(tag) {
+            if holds(&file[refusal.chunk as usize..]) {
                 *numbers.entry(refusal.number()).or_default() += 1;
             }
         }
@@ -86,6 +91,19 @@ fn are_refused_for_their_indices() {
     for tag in [b"POLS", b"PTAG", b"SURF"] {
         let times = numbers_of(tag).get(&22).copied().unwrap_or(0);
         assert!(times >= 30, "{tag:?} {times}");
+    }
+}
+
+/// Every refusal that pairs can have comes up in a PTAG of type PART as in one
+/// of type SURF, and 4 and 5 for their header.
+#[test]
+fn are_refused_for_their_taggings() {
+    for kind in [b"SURF", b"PART"] {
+        let numbers =
+            numbers_where(|chunk| chunk.starts_with(b"PTAG") && chunk.get(8..12) == Some(kind));
+        let told: Vec<u64> = numbers.keys().copied().collect();
+        assert_eq!(told, [4, 5, 10, 11, 19, 22], "{kind:?} {numbers:?}");
+        assert!(numbers.values().all(|&times| times >= 10), "{numbers:?}");
     }
 }
 

@@ -4,8 +4,8 @@
 //! The lines of levels `base` and `103` are without request #101: they have 6
 //! where an item is cut or a string is open, and the chunk's place. Those of
 //! levels `101` and `101,103` have the numbers and places that are told. Those
-//! of level `all` do too, where they are about request #107; the others of them
-//! belong to requests that are still to come.
+//! of level `all` do too, where they are about request #107 or #111; the others
+//! of them belong to requests that are still to come.
 
 use second::{rules, Mesh, Record};
 
@@ -115,10 +115,13 @@ fn requests(example: &Example) -> Vec<u32> {
     met.map(|(request, _)| request).collect()
 }
 
+/// The lines of level `all` that are about a request that has come.
 #[test]
-fn every_line_of_107() {
-    let of_107 = |example: &Example| example.level == "all" && requests(example) == [107];
-    assert_eq!(check_lines(of_107, verdict), 4);
+fn every_line_of_107_and_111() {
+    for (request, lines) in [(107, 4), (111, 1)] {
+        let of = |example: &Example| example.level == "all" && requests(example) == [request];
+        assert_eq!(check_lines(of, verdict), lines, "{request}");
+    }
 }
 
 /// Each line of level `all` is about one request, so that none is left out

@@ -135,6 +135,25 @@ fn records_need_it_too() {
     }
 }
 
+/// A polygon has four words since #111: a table of three for each, as it was
+/// before, is too short.
+#[test]
+fn a_polygon_needs_four_words() {
+    let chunks = [
+        cases::assemble::chunk(b"PNTS", &[0; 12]),
+        cases::assemble::chunk(b"POLS", b"FACE\0\x01\0\0\0\x01\0\0\0\x01\0\0"),
+    ];
+    let content = cases::assemble::join(&chunks);
+    let file = cases::assemble::form(cases::assemble::Kind::Lwo2, &content);
+    let needed = needs(&file);
+    assert_eq!((needed.number, needed.polygons), (16, 3));
+    for (words, number) in [(0, 16), (9, 16), (11, 16), (12, 0), (13, 0)] {
+        let mut tables = exact_room(&needed);
+        tables.polygons.resize(words, 7);
+        assert_eq!(read(&file, &mut tables).number, number, "{words} words");
+    }
+}
+
 /// "NO ROOM answered before a fault further on is seen" is easy to get wrong:
 /// a fault in the last chunk is told also where there is no room.
 #[test]

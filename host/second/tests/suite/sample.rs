@@ -35,6 +35,7 @@ fn its_mesh() {
     assert_eq!(mesh.polygons[1].vertices, [0, 1, 2, 3]);
     assert_eq!(mesh.polygons[1].surface, 2);
     assert!(mesh.polygons.iter().all(|polygon| polygon.kind == 1));
+    assert!(mesh.polygons.iter().all(|polygon| polygon.part == 0));
     assert_eq!(mesh.names, [b"Triangle".to_vec(), b"Square".to_vec()]);
 }
 
@@ -76,8 +77,8 @@ names 2
 name-bytes 14
 skipped 0
 details 0
-polygon 0 kind 1 surface 1 vertices 3 4 0
-polygon 1 kind 1 surface 2 vertices 0 1 2 3
+polygon 0 kind 1 surface 1 part 0 vertices 3 4 0
+polygon 1 kind 1 surface 2 part 0 vertices 0 1 2 3
 ";
     assert_eq!(listing(&hex(DUMP)), lines);
 }

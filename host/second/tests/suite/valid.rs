@@ -1,9 +1,11 @@
 //! Generated valid files: what each must give is said by the generator.
 
+use std::collections::BTreeMap;
+
 use cases::assemble::Kind;
 use cases::indices::{indices, is_short};
 use cases::insert::{boundaries, with_unlisted};
-use cases::plain::PlainMesh;
+use cases::plain::{PlainMesh, POLYGON_WORDS};
 use cases::random::Random;
 use cases::valid::{valid, Valid};
 use second::{canonical, is_mesh, rules, Answer, Mesh, Tables};
@@ -108,7 +110,10 @@ fn exercise_the_rules() {
         .map(|seed| valid(&mut Random::new(seed)))
         .collect();
     let count = |holds: &dyn Fn(&Valid) -> bool| files.iter().filter(|one| holds(one)).count();
-    let surfaces = |one: &Valid| one.mesh.polygons.chunks(3).filter(|p| p[2] != 0).count();
+    let polygons = |one: &Valid, holds: &dyn Fn(&[u32]) -> bool| {
+        let mut entries = one.mesh.polygons.chunks_exact(POLYGON_WORDS);
+        entries.any(holds)
+    };
     let records = |one: &Valid, word: usize, value: u32| {
         one.mesh
             .records
@@ -117,11 +122,21 @@ fn exercise_the_rules() {
     };
     assert!(count(&|one| one.details > 0) > 100, "details");
     assert!(count(&|one| one.skipped > 0) > 1_000, "skipped");
-    assert!(count(&|one| surfaces(one) > 0) > 500, "surfaces");
-    assert!(
-        count(&|one| one.mesh.polygons.chunks(3).any(|p| p[0] == 2)) > 300,
-        "patches"
-    );
+    type Holds = fn(&[u32]) -> bool;
+    let of_polygons: [(&str, usize, Holds); 6] = [
+        ("patches", 300, |entry| entry[0] == 2),
+        ("surfaces", 500, |entry| entry[2] != 0),
+        ("parts", 300, |entry| entry[3] != 0),
+        ("parts alone", 200, |entry| entry[2] == 0 && entry[3] != 0),
+        ("both", 150, |entry| entry[2] != 0 && entry[3] != 0),
+        ("both, by two names", 100, |entry| {
+            entry[2] != 0 && entry[3] != 0 && entry[2] != entry[3]
+        }),
+    ];
+    for (word, least, holds) in of_polygons {
+        let times = count(&|one| polygons(one, &holds));
+        assert!(times > least, "{word} {times}");
+    }
     assert!(
         count(&|one| one.mesh.names.contains(&0)) > 100,
         "empty names"
@@ -160,6 +175,55 @@ fn exercise_the_rules() {
         "bytes of a small long index"
     );
     assert!(count(&|one| whole_layers(one) > 1) > 100, "whole layers");
+}
+
+/// The same of PTAG of type PART: where it stands beside others of its POLS.
+#[test]
+fn have_parts_in_every_place() {
+    let mut times: BTreeMap<&str, u64> = BTreeMap::new();
+    for seed in 0..FILES {
+        let one = valid(&mut Random::new(seed));
+        for types in taggings(&one) {
+            let has = |kind: &[u8]| types.iter().any(|other| other == kind);
+            let follows = |one: &[u8], later: &[u8]| {
+                let mut pairs = types.windows(2);
+                pairs.any(|pair| pair[0] == one && pair[1] == later)
+            };
+            let other = types.iter().any(|kind| kind != b"SURF" && kind != b"PART");
+            let parts = types.iter().filter(|kind| *kind == b"PART").count();
+            let places = [
+                ("alone", types == [*b"PART"]),
+                ("after a surface's", follows(b"SURF", b"PART")),
+                ("before a surface's", follows(b"PART", b"SURF")),
+                ("several", parts > 1),
+                ("beside another type", has(b"PART") && other),
+            ];
+            for (place, there) in places {
+                *times.entry(place).or_default() += u64::from(there);
+            }
+        }
+    }
+    assert_eq!(times.len(), 5);
+    assert!(times.values().all(|&times| times > 100), "{times:?}");
+}
+
+/// The types of the PTAG chunks of each POLS of an LWO2 file.
+fn taggings(one: &Valid) -> Vec<Vec<[u8; 4]>> {
+    let mut lists: Vec<Vec<[u8; 4]>> = Vec::new();
+    if one.parts.kind == Kind::Lwob {
+        return lists;
+    }
+    for chunk in &one.parts.chunks {
+        match &chunk[..4] {
+            b"POLS" => lists.push(Vec::new()),
+            b"PTAG" => {
+                let kind = chunk[8..12].try_into().expect("four bytes");
+                lists.last_mut().expect("a POLS before it").push(kind);
+            }
+            _ => {}
+        }
+    }
+    lists
 }
 
 /// Whether an index has the long form.

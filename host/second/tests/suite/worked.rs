@@ -1,6 +1,7 @@
 //! The worked table of document 01, a to l, with what request #101 says of two
-//! rows, "case k stays and case f becomes 19", and #107 of one: "Document 01's
-//! case e becomes this refusal."
+//! rows, "case k stays and case f becomes 19", #107 of one, "Document 01's case e
+//! becomes this refusal", and #111 of one: "The listing adds ` part N` before
+//! ` vertices`, in case l ` part 0`."
 
 use second::canonical;
 use second::items::Cursor;
@@ -137,7 +138,7 @@ fn l_the_mesh() {
     let (zero, one, two) = (0, 0x3f80_0000, 0x4000_0000);
     let points = vec![zero, zero, zero, one, zero, zero, zero, two, zero];
     assert_eq!(tables.points, points);
-    assert_eq!(tables.polygons, [1, 3, 1]);
+    assert_eq!(tables.polygons, [1, 3, 1, 0]);
     assert_eq!(tables.vertices, [0, 1, 2]);
     assert_eq!(tables.names, [3]);
     assert_eq!(tables.name_bytes, b"Oak");
@@ -170,7 +171,7 @@ names 1
 name-bytes 3
 skipped 0
 details 0
-polygon 0 kind 1 surface 1 vertices 0 1 2
+polygon 0 kind 1 surface 1 part 0 vertices 0 1 2
 ";
     assert_eq!(listing(&hex(L)), lines);
 }

@@ -1,6 +1,8 @@
 //! The writer: round trips on random meshes, 17, 18 and 16 in that order.
 
-use cases::meshes::{at_file_limit, damaged, long_indices, mesh, rich_mesh};
+use cases::meshes::{
+    at_file_limit, damaged, long_indices, many_names, mesh, parts_at_file_limit, rich_mesh,
+};
 use cases::plain::{PlainMesh, UNDEFINED};
 use cases::random::Random;
 use second::{canonical, is_mesh, write, Mesh, Tables, Written};
@@ -98,7 +100,26 @@ fn a_damaged_mesh_is_17() {
 /// 18 comes before 16, 17 before 18.
 #[test]
 fn a_file_too_long_is_18() {
-    let fits = tables_of(&at_file_limit(false));
+    check_file_limit(at_file_limit);
+}
+
+/// The 16 bytes of a PTAG PART count too: without it, the file that is two bytes
+/// too long would fit.
+#[test]
+fn a_file_too_long_by_its_parts_is_18() {
+    check_file_limit(parts_at_file_limit);
+    let mut without = parts_at_file_limit(true);
+    without.set_part(0, 0);
+    let needed = Written {
+        number: 16,
+        place: 0,
+        length: 16_777_218 - 16,
+    };
+    assert_eq!(write(&tables_of(&without), &mut []), needed);
+}
+
+fn check_file_limit(mesh: fn(bool) -> PlainMesh) {
+    let fits = tables_of(&mesh(false));
     let needed = Written {
         number: 16,
         place: 0,
@@ -109,7 +130,7 @@ fn a_file_too_long_is_18() {
     assert_eq!(file.len(), 16_777_216);
     assert_eq!(accepted(&file).1, fits);
 
-    let mut over = tables_of(&at_file_limit(true));
+    let mut over = tables_of(&mesh(true));
     assert_eq!(write(&over, &mut []), refused(18));
     let mut out = vec![0xa5; 16_777_300];
     assert_eq!(write(&over, &mut out), refused(18));
@@ -158,7 +179,7 @@ fn faces_with(vertices: usize) -> Tables {
     let mut rest = vertices as u32;
     while rest > 0 {
         let count = rest.min(1_023);
-        mesh.polygons.extend_from_slice(&[1, count, 0]);
+        mesh.polygons.extend_from_slice(&[1, count, 0, 0]);
         rest -= count;
     }
     tables_of(&mesh)
@@ -177,22 +198,36 @@ fn names_with(bytes: usize) -> Tables {
     tables_of(&mesh)
 }
 
-/// A surface may be 65,536 but no more, however many names there are.
+/// A surface and a part may be 65,536 but no more, however many names there are.
 #[test]
-fn a_surface_is_at_most_65536() {
+fn a_surface_or_part_is_at_most_65536() {
+    for (surface, part) in [(65_536, 0), (0, 65_536), (65_535, 65_536)] {
+        let good = tables_of(&many_names(surface, part));
+        assert_eq!(good.names.len(), 65_540);
+        assert_eq!(accepted(&written(&good)).1, good);
+    }
+    for above in [65_537, 65_540] {
+        for (surface, part) in [(above, 0), (0, above)] {
+            let bad = tables_of(&many_names(surface, part));
+            assert_eq!(write(&bad, &mut []), refused(17), "{surface} {part}");
+        }
+    }
+}
+
+/// "A part above the name count": with two names, 2 is the last.
+#[test]
+fn a_part_is_at_most_the_name_count() {
     let mut mesh = PlainMesh {
         points: vec![0; 3],
         ..PlainMesh::default()
     };
-    for name in cases::names::many(65_540) {
-        mesh.add_name(&name, &UNDEFINED);
-    }
-    mesh.add_polygon(1, &[0], 65_536);
-    let good = tables_of(&mesh);
-    assert_eq!(accepted(&written(&good)).1, good);
-    for surface in [65_537, 65_540] {
-        mesh.set_surface(0, surface);
-        assert_eq!(write(&tables_of(&mesh), &mut []), refused(17), "{surface}");
+    mesh.add_name(b"a", &UNDEFINED);
+    mesh.add_name(b"b", &UNDEFINED);
+    for (part, told) in [(0, 16), (1, 16), (2, 16), (3, 17), (u32::MAX, 17)] {
+        let mut mesh = mesh.clone();
+        mesh.add_polygon_of_part(1, &[0], 0, part);
+        let number = write(&tables_of(&mesh), &mut []).number;
+        assert_eq!(number, told, "{part}");
     }
 }
 
@@ -204,7 +239,7 @@ fn indices_take_the_shortest_form() {
     let (short, long) = (65_280, 2);
     let polygons = 4 + (short + long) * 2 + short * 2 + long * 4;
     let pairs = 4 + short * 4 + long * 6;
-    let length = 12 + 10 + 8 + 65_282 * 12 + 8 + polygons + 8 + pairs;
+    let length = 12 + 12 + 8 + 65_282 * 12 + 8 + polygons + 2 * (8 + pairs);
     assert_eq!(file.len(), length);
     assert_eq!(accepted(&file).1, mesh);
 }
@@ -252,4 +287,45 @@ fn a_file_worked_by_hand() {
          5452414e 0006 00000008 0000
          53494445 0002 0003");
     assert_eq!(written(&tables_of(&mesh)), file);
+}
+
+/// "a PTAG PART for each run with a part name, after its PTAG SURF if any",
+/// worked by hand: a run with both, one with a part alone, one with a surface
+/// alone, and one with neither. The pairs are those of the polygons that have
+/// one, ascending.
+#[test]
+fn parts_worked_by_hand() {
+    let mut mesh = PlainMesh {
+        points: vec![0; 3],
+        ..PlainMesh::default()
+    };
+    for name in [&b"oak"[..], b"head", b"tail"] {
+        mesh.add_name(name, &UNDEFINED);
+    }
+    let rows = [
+        (1, 0, 2),
+        (1, 1, 0),
+        (1, 1, 3),
+        (2, 0, 1),
+        (2, 0, 0),
+        (1, 3, 0),
+        (2, 0, 0),
+    ];
+    for (kind, surface, part) in rows {
+        mesh.add_polygon_of_part(kind, &[0], surface, part);
+    }
+    let file = hex("464f524d 000000c4 4c574f32
+         54414753 00000010 6f616b00 68656164 0000 7461696c 0000
+         504e5453 0000000c 00000000 00000000 00000000
+         504f4c53 00000010 46414345 0001 0000 0001 0000 0001 0000
+         50544147 0000000c 53555246 0001 0000 0002 0000
+         50544147 0000000c 50415254 0000 0001 0002 0002
+         504f4c53 0000000c 50544348 0001 0000 0001 0000
+         50544147 00000008 50415254 0000 0000
+         504f4c53 00000008 46414345 0001 0000
+         50544147 00000008 53555246 0000 0002
+         504f4c53 00000008 50544348 0001 0000");
+    let tables = tables_of(&mesh);
+    assert_eq!(written(&tables), file);
+    assert_eq!(accepted(&file).1, tables);
 }

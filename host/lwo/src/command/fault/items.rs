@@ -72,7 +72,8 @@ pub fn vertex_number(spot: &Spot) -> Option<Expected> {
     numbers.unless_among(i64::from(number), format!("point {number}"))
 }
 
-/// 10: the surface number of a polygon in LWOB, or the tag that one is given in LWO2.
+/// 10: the surface number of a polygon in LWOB, or in LWO2 the tag that one is given as its
+/// surface or part.
 pub fn surface(spot: &Spot) -> Option<Expected> {
     let (kind, tags) = spot.tags();
     match (kind, &tags[..]) {
@@ -225,10 +226,15 @@ fn indexed(spot: &Spot) -> Option<&'static str> {
     let (kind, tags) = spot.tags();
     match (kind, &tags[..]) {
         (b"LWO2", [b"POLS"]) => Some("point"),
-        (b"LWO2", [b"PTAG"]) if spot.body()?.starts_with(b"SURF") => Some("polygon"),
+        (b"LWO2", [b"PTAG"]) if has_pairs(spot.body()?) => Some("polygon"),
         (b"LWO2", [b"SURF", tag]) if spot.offset()? == lwo2_levels(tag)? => Some("envelope"),
         _ => None,
     }
+}
+
+/// Whether the pairs of a polygon and a tag in a PTAG are read: those of surfaces and of parts are.
+fn has_pairs(body: &[u8]) -> bool {
+    matches!(body.first_chunk(), Some(b"SURF" | b"PART"))
 }
 
 /// The numbers that name something in a list.

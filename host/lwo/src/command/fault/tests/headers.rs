@@ -127,7 +127,6 @@ fn headers_deep_in_a_block() {
 
 #[test]
 fn what_has_to_come_before() {
-    let ptag = chunk(b"PTAG", b"PART");
     for (file, text) in [
         (
             lwob(&[points(), names(b"SRFS"), points()]),
@@ -153,11 +152,17 @@ fn what_has_to_come_before() {
             lwo2(&[face(), points()]),
             "refused 5 at 12 (POLS at 12); found no PNTS before it, expected one",
         ),
-        (
-            lwo2(&[points(), ptag, face()]),
-            "refused 5 at 56 (PTAG at 56); found no POLS before it, expected one",
-        ),
     ] {
+        assert_eq!(told(&file), text);
+    }
+}
+
+/// Also where what a type holds is not judged, as that of smoothing groups.
+#[test]
+fn tags_of_every_type_come_behind_polygons() {
+    for kind in [b"SURF", b"PART", b"SMGP"] {
+        let text = "refused 5 at 56 (PTAG at 56); found no POLS before it, expected one";
+        let file = lwo2(&[points(), chunk(b"PTAG", kind), face()]);
         assert_eq!(told(&file), text);
     }
 }

@@ -7,7 +7,7 @@ use super::{face, layer, lwo2, lwob, names, points, told, LAYER_ITEMS};
 /// Polygons need points, and tags need polygons, of their own layer.
 #[test]
 fn what_has_to_come_before_in_a_layer() {
-    let parts = chunk(b"PTAG", b"PART");
+    let [parts, groups] = [b"PART", b"SMGP"].map(|kind| chunk(b"PTAG", kind));
     let none = || layer(b"");
     for (file, text) in [
         (
@@ -17,6 +17,11 @@ fn what_has_to_come_before_in_a_layer() {
         ),
         (
             lwo2(&[points(), face(), none(), points(), parts]),
+            "refused 5 at 148 (PTAG at 148); \
+             found no POLS before it in its layer (LAYR at 76), expected one",
+        ),
+        (
+            lwo2(&[points(), face(), none(), points(), groups]),
             "refused 5 at 148 (PTAG at 148); \
              found no POLS before it in its layer (LAYR at 76), expected one",
         ),
@@ -53,8 +58,8 @@ fn numbers_in_a_layer() {
     let two = [&b"FACE"[..], &[0, 1, 0, 0].repeat(2)].concat();
     let long = join(&[&b"FACE"[..], &u2(1), &vx_long(2)]);
     let first_layer = [names(b"TAGS"), points(), chunk(b"POLS", &two)];
-    let pair = |polygon, tag| {
-        let pair = chunk(b"PTAG", &join(&[&b"SURF"[..], &u2(polygon), &u2(tag)]));
+    let pair = |kind, polygon, tag| {
+        let pair = chunk(b"PTAG", &join(&[kind, &u2(polygon)[..], &u2(tag)]));
         let second_layer = [layer(b""), points(), face(), pair];
         lwo2(&[join(&first_layer), join(&second_layer)])
     };
@@ -68,11 +73,19 @@ fn numbers_in_a_layer() {
             "refused 9 at 106 (POLS at 92); found point 1, expected none, for PNTS at 84 has none",
         ),
         (
-            pair(1, 0),
+            pair(b"SURF", 1, 0),
             "refused 11 at 196 (PTAG at 184); found polygon 1, expected 0 (POLS at 164)",
         ),
         (
-            pair(0, 2),
+            pair(b"PART", 1, 0),
+            "refused 11 at 196 (PTAG at 184); found polygon 1, expected 0 (POLS at 164)",
+        ),
+        (
+            pair(b"SURF", 0, 2),
+            "refused 10 at 198 (PTAG at 184); found tag 2, expected 0 to 1 (TAGS at 12)",
+        ),
+        (
+            pair(b"PART", 0, 2),
             "refused 10 at 198 (PTAG at 184); found tag 2, expected 0 to 1 (TAGS at 12)",
         ),
         (

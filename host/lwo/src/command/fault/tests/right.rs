@@ -22,6 +22,7 @@ fn headers() {
     let patch = join(&[u2(1), u2(0), i2(1)]);
     let files = [
         lwo2(&[names(b"TAGS"), points(), face(), chunk(b"PTAG", b"PART")]),
+        lwo2(&[names(b"TAGS"), points(), face(), chunk(b"PTAG", b"SMGP")]),
         lwo2(&[face_in_layer(b""), face_in_layer(&u2(0))].map(|layer| join(&layer))),
         lwob(&[
             points(),
@@ -46,11 +47,13 @@ fn headers() {
     }
 }
 
-/// `Oak` and `Ash` from 20 on, a face from 80 on and a pair from 104 on.
+/// `Oak` and `Ash` from 20 on, a face from 80 on and a pair from 104 on, of a surface or of a part.
 #[test]
 fn items_and_strings_of_lwo2() {
-    let pairs = join(&[&b"SURF"[..], &vx_short(0), &u2(1)]);
-    let file = lwo2(&[names(b"TAGS"), points(), face(), chunk(b"PTAG", &pairs)]);
+    let [of_surface, of_part] = [b"SURF", b"PART"].map(|kind| {
+        let pairs = join(&[&kind[..], &vx_short(0), &u2(1)]);
+        lwo2(&[names(b"TAGS"), points(), face(), chunk(b"PTAG", &pairs)])
+    });
     for (kind, place) in [
         (K::Name, 20),
         (K::Name, 24),
@@ -67,13 +70,14 @@ fn items_and_strings_of_lwo2() {
         (K::Surface, 106),
         (K::ItemCut, 106),
     ] {
-        is_silent(&file, kind, place);
+        is_silent(&of_surface, kind, place);
+        is_silent(&of_part, kind, place);
     }
 }
 
 /// An index in four bytes is right from 65,280 on, as the vertex at 783,406 is, and where it is not
-/// judged, as the one at 783,422 in a PTAG that is not of type SURF. LWOB has numbers of two bytes
-/// alone, as the vertex at 783,418.
+/// judged, as the one at 783,422 in a PTAG of neither type SURF nor PART. LWOB has numbers of two
+/// bytes alone, as the vertex at 783,418.
 #[test]
 fn long_indices() {
     let face = join(&[&b"FACE"[..], &u2(1), &vx_long(65_280)]);
@@ -96,7 +100,7 @@ fn long_indices() {
 
 /// A layer with all that a face needs.
 fn face_in_layer(parent: &[u8]) -> [Vec<u8>; 4] {
-    [layer(parent), points(), face(), chunk(b"PTAG", b"PART")]
+    [layer(parent), points(), face(), chunk(b"PTAG", b"SMGP")]
 }
 
 /// The name stands 16 bytes behind the first byte of the body, and ends with the byte before a
