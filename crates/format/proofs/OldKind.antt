@@ -1,7 +1,7 @@
 -- "LWOB gives 0": no polygon of an LWOB file has a part name, since its faces and patches have none and no chunk of it is a PTAG.
 use Prim.Native.Nat.{ℕ, _+_}
 use mathlib.Core.Path.{_≡_, refl, sym, _∙_}
-use mathlib.Core.List.{List, [], _∷_, map}
+use mathlib.Core.List.{List, [], map}
 use mathlib.Core.Bool.{Bool, true}
 use lib.Dec.{eqb}
 use lib.ListN.{length}
@@ -10,7 +10,7 @@ use Rattle.format.specs.Bytes.{_is_, all}
 use Rattle.format.specs.Items.{fine}
 use Rattle.format.specs.Mesh.{Polygon, Mesh}
 use Rattle.format.specs.Bodies.{Part, pointList, nameList, polygonList, tagging, surface, layer, skippedChunk, face, facesBody, patch, patchesBody}
-use Rattle.format.specs.Rules.{Before, judge, after, form, from, polygonsIn, meshOf, gives, rules}
+use Rattle.format.specs.Rules.{Before, judge, form, from, polygonsIn, meshOf, gives, rules}
 use Rattle.format.proofs.Facts.{all-map, all-append-true}
 use Rattle.format.proofs.Verdicts.{same-fine}
 use Rattle.format.proofs.ChunkWalk.{EachPart, any-body, walk-each, accepted}

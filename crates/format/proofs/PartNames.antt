@@ -1,6 +1,5 @@
 -- Part names: PART pairs are read as SURF pairs are, each type gives a polygon its own number and leaves the other, and a file with both is computed whole.
 use Prim.Native.Nat.{ℕ, _+_}
-use Prim.Native.String.{String}
 use mathlib.Core.Path.{_≡_, refl}
 use mathlib.Core.List.{List, [], _∷_, _++_, map}
 use mathlib.Core.Bool.{true, false}

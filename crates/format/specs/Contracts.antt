@@ -10,10 +10,10 @@ use lib.ListN.{length, take, drop}
 use Rattle.format.specs.declared.Kind.{Kind}
 use Rattle.format.specs.declared.Kind.the-variants.{LWOB, LWO2}
 use Rattle.format.specs.Bytes.{tagNumber, sum, joined}
-use Rattle.format.specs.Items.{Verdict, fine, fault, _andThen_, Got, Reader, _>>=_, give, many, whole}
+use Rattle.format.specs.Items.{Verdict, fine, fault, _andThen_, Got, Reader, give, whole}
 use Rattle.format.specs.Chunks.{Chunks, chunks}
 use Rattle.format.specs.Mesh.{Polygon, polygonWords, Name}
-use Rattle.format.specs.Bodies.{Part, pointList, nameList, polygonList, tagging, surface, layer, skippedChunk, pair}
+use Rattle.format.specs.Bodies.{Part, pointList, nameList, polygonList, tagging, surface, layer, skippedChunk}
 use Rattle.format.specs.Rules.{Before, start, walk, partsOf, namesOf}
 
 -- ---- readers

@@ -1,12 +1,11 @@
 -- The parts of the chunks of a run as they are put into the output, and the room that they take.
 use Prim.Native.Nat.{ℕ, _+_, _≤_, _^_}
-use Prim.Native.String.{String}
 use mathlib.Core.Path.{_≡_}
 use mathlib.Core.List.{List, [], _++_, map}
 use mathlib.Core.Bool.{true}
 use lib.Dec.{eqb, ltb}
 use lib.ListN.{length}
-use Rattle.format.specs.Bytes.{if_then_else_, spelt, all, sum, joined}
+use Rattle.format.specs.Bytes.{if_then_else_, all, sum, joined}
 use Rattle.format.specs.Mesh.{polygonSize}
 use Rattle.format.specs.Canonical.{bytes, vxBytes, chunkBytes, polygonBytes}
 use Rattle.format.specs.Written.{vertexCounts}
