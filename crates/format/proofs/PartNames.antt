@@ -1,10 +1,13 @@
 -- Part names: PART pairs are read as SURF pairs are, each type gives a polygon its own number and leaves the other, and a file with both is computed whole.
 use Prim.Native.Nat.{ℕ, _+_}
+use Prim.Native.String.{String}
 use mathlib.Core.Path.{_≡_, refl}
 use mathlib.Core.List.{List, [], _∷_, _++_, map}
 use mathlib.Core.Bool.{true, false}
 use native.Mathlib.Omega.{arith}
-use lib.ListN.{length}
+use lib.Dec.{leb}
+use lib.ListN.{length, length-append}
+use lib.Seq.{take-at, drop-at}
 use borrow.Author.Tests.{le-leb}
 use Rattle.format.specs.declared.Fault.the-variants.{ItemCut, LongIndex, SurfaceNumber, PolygonNumber}
 use Rattle.format.specs.Bytes.{spelt, tagNumber, number, finite, every, all, sum, joined, same, amongst}
@@ -12,7 +15,7 @@ use Rattle.format.specs.Refusals.{numberOf}
 use Rattle.format.specs.Items.{fine, fault, _andThen_, _>>=_, give, _or_unless_, whole, times, upTo, many, item, uint, float, vx, toZero, string}
 use Rattle.format.specs.Chunks.{sizeOf, lengthOf, wellFormed, chunkOf, ofLength, link, split, chunks, unjudged}
 use Rattle.format.specs.Mesh.{Polygon, polygonOf, FACE, PATCH, Mesh, missing}
-use Rattle.format.specs.Bodies.{tagging, point, wholePoints, pointsBody, name, namesAfter, namesBody, lwo2Vertices, polygon, polygonsBody, pair, taggingBody}
+use Rattle.format.specs.Bodies.{tagging, point, wholePoints, pointsBody, name, namesAfter, namesBody, lwo2Vertices, polygon, polygonsBody, pair, pairsType, taggingBody}
 use Rattle.format.specs.Rules.{refused, gives, after, when_read_, judge, located, walk, kindOf, form, judged, added, standing, tagged, retag, polygonsIn, meshOf, outcome, rules}
 use Rattle.format.specs.Canonical.{bytes, vxBytes, stringBytes, chunkBytes, polygonBytes, pairsOf, pairBytes, ahead, runs, unlessEmpty, runChunks, surfaceChunks, canonicalChunks, formBytes, canonical}
 use Rattle.format.specs.Written.{goodPolygon}
@@ -21,16 +24,23 @@ use Rattle.format.proofs.Tagging.{tagged-keeps}
 
 -- ---- "PART pairs are read like SURF pairs": whatever follows the type
 
-module _ (polygonCount nameCount at : ℕ) (rest : List ℕ) where
-  pub surface-pairs : taggingBody polygonCount nameCount at (spelt "SURF" ++ rest)
-      ≡ (many (pair polygonCount nameCount) >>= λ ps. give (tagging (tagNumber "SURF") ps)) (at + 4) rest
-  unfolding taggingBody uint item number _>>=_ _andThen_
-  surface-pairs = rw (le-leb 4 (length (spelt "SURF" ++ rest)) (omega arith))
+-- of a type of four bytes whose pairs are read
+pairs-read : (type : String) → length (spelt type) ≡ 4 → pairsType (tagNumber type) ≡ true → (polygonCount nameCount at : ℕ) (rest : List ℕ)
+    → taggingBody polygonCount nameCount at (spelt type ++ rest) ≡ (many (pair polygonCount nameCount) >>= λ ps. give (tagging (tagNumber type) ps)) (at + 4) rest
+unfolding taggingBody uint item _>>=_ _andThen_
+pairs-read type four kept polygonCount nameCount at rest =
+    let long : leb 4 (length (spelt type ++ rest)) ≡ true = le-leb 4 (length (spelt type ++ rest)) (omega (arith, four, length-append (spelt type) rest)) in
+    rw (long, take-at (spelt type) rest 4 four, drop-at (spelt type) rest 4 four, kept)
 
-  pub part-pairs : taggingBody polygonCount nameCount at (spelt "PART" ++ rest)
-      ≡ (many (pair polygonCount nameCount) >>= λ ps. give (tagging (tagNumber "PART") ps)) (at + 4) rest
-  unfolding taggingBody uint item number _>>=_ _andThen_
-  part-pairs = rw (le-leb 4 (length (spelt "PART" ++ rest)) (omega arith))
+pub surface-pairs : (polygonCount nameCount at : ℕ) (rest : List ℕ)
+    → taggingBody polygonCount nameCount at (spelt "SURF" ++ rest) ≡ (many (pair polygonCount nameCount) >>= λ ps. give (tagging (tagNumber "SURF") ps)) (at + 4) rest
+unfolding number
+surface-pairs = pairs-read "SURF" refl refl
+
+pub part-pairs : (polygonCount nameCount at : ℕ) (rest : List ℕ)
+    → taggingBody polygonCount nameCount at (spelt "PART" ++ rest) ≡ (many (pair polygonCount nameCount) >>= λ ps. give (tagging (tagNumber "PART") ps)) (at + 4) rest
+unfolding number
+part-pairs = pairs-read "PART" refl refl
 
 -- "with the same checks and numbers 10 and 11": where there is one polygon and one name, a pair, none, the second polygon, the second name, a polygon and a tag
 -- that are cut, and a polygon in the long form; and a type that is near

@@ -62,7 +62,7 @@ module _ {type index : ℕ} (word-is : TagWord type index) (inside : index < pol
       let e : tagged qs type (ts ++ ((p, n) ∷ [])) ≡ retag type p n now = foldl-append (λ now t. retag type (t .0) (t .1) now) qs ts ((p, n) ∷ []) in
       rw (e, ← retag-words p n now (omega (arith, l))) (put-over w (p * polygonSize + index) n (omega (arith, l, z)) (omega (arith, l, z)))
 
--- "a surface number" and "part name": the third and the fourth of a polygon's words
+-- "surface number" and "part name": the third and the fourth of a polygon's words
 pub surface-word : TagWord (tagNumber "SURF") 2
 unfolding number
 surface-word = record { set-word = λ n p. refl }
@@ -73,11 +73,10 @@ part-word = record { set-word = λ n p. refl }
 
 -- ---- the pairs of a body
 
--- the pairs are judged to be one list only
-held : {header at : ℕ} {r : Reader (List (ℕ × ℕ))} {s : List ℕ} {ts us : List (ℕ × ℕ)} → JudgedAt header at r itself s (fine ts)
-    → whole header r at (drop at s) ≡ fine us → ts ≡ us
+-- a body that is fine was judged so
+judged-fine : {A : Type 0} {header at : ℕ} {r : Reader A} {s : List ℕ} {v : Verdict A} {x : A} → JudgedAt header at r itself s v → whole header r at (drop at s) ≡ fine x → v ≡ fine x
 unfolding _andThen_
-held j e = let same = rw e at (j .is) in cc
+judged-fine j e = rw e at (j .is)
 
 -- the pairs `done` are put, and those that follow are read from here on
 pub record TagsStored (s : List ℕ) (from polygons names : ℕ) (table₀ : List ℕ) (i index at : ℕ) (table : List ℕ) : Type 0 where
@@ -156,14 +155,9 @@ module _ {s : List ℕ} {from polygons names : ℕ} {table₀ : List ℕ} {i ind
   pub tags-end : length s ≤ at → PairsPut (whole 0 (many (pair polygons names)) from (drop from s)) polygons index table₀ i table
   tags-end end =
       let j : JudgedAt 0 from (many (pair polygons names)) itself s (fine (f .done ++ [])) = used-up (record { is = many-end (f .rest) end }) end in
-      record { put = λ word-is qs ts l e h. rw (← held j e, append-nil (f .done)) (f .put word-is qs l h) }
+      record { put = λ word-is qs ts l e h. rw (← same-fine (judged-fine j e), append-nil (f .done)) (f .put word-is qs l h) }
 
 -- ---- the type of a body
-
--- a body that is fine was judged so
-judged-fine : {A : Type 0} {header at : ℕ} {r : Reader A} {s : List ℕ} {v : Verdict A} {x : A} → JudgedAt header at r itself s v → whole header r at (drop at s) ≡ fine x → v ≡ fine x
-unfolding _andThen_
-judged-fine j e = rw e at (j .is)
 
 module _ (polygons names : ℕ) {s : List ℕ} where
   pub type-never-cut : {table : List ℕ} {i : ℕ} → TagsRoom (whole 0 (taggingBody polygons names) 8 (drop 8 s)) polygons table i
