@@ -1,4 +1,5 @@
 // The rules of document 01 as definitions: see specs/. Code and rules share these types.
+#![tactic(auto)]
 
 pub mod tags;
 

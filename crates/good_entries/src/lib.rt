@@ -1,4 +1,6 @@
 // Whether the entries of each lent table are those of a mesh: floats, polygons with their vertices, and records. Nothing is changed.
+#![tactic(auto)]
+
 pub mod floats;
 pub mod polygons;
 pub mod records;

@@ -1,4 +1,6 @@
 // Whether six lent tables are a mesh: refusal 17 of document 01. Every writer, comparison and cut asks this first.
+#![tactic(auto)]
+
 ghost use Rattle.std.specs.Prelude.{◌≡◌, ◌*◌, ◌≤◌, ◌<◌, length};
 ghost use Rattle.format.specs.Limits.{entry_limit};
 ghost use Rattle.format.specs.Mesh.{polygon_size, lent};

@@ -1,5 +1,7 @@
 // Whether the names of a lent table are those of a mesh: a length each, and their bytes joined. No two may be equal, and a table has room for more names than
 // can be kept at hand.
+#![tactic(auto)]
+
 ghost use Rattle.std.specs.Prelude.{◌≡◌, [], ◌≤◌, length};
 ghost use Rattle.format.specs.Bytes.{all, amongst, sum};
 ghost use Rattle.format.specs.Written.{pieces, has_no_zero, good_names};

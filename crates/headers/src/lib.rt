@@ -1,4 +1,6 @@
 // The headers of chunks and sub-chunks: tag, length within the parent, and pad, judged together.
+#![tactic(auto)]
+
 ghost use Rattle.std.specs.Prelude.{◌≡◌, ◌+◌, ◌≤◌, ◌<◌, eqb, length, take, drop};
 ghost use Rattle.format.specs.Bytes.{between, all};
 ghost use Rattle.headers.specs.Promises.{HeaderAt, HeadRead};

@@ -1,4 +1,6 @@
 // How long the canonical file of a mesh is, without writing it: its items, its runs of polygons and its surfaces, in numbers that cannot wrap.
+#![tactic(auto)]
+
 ghost use Rattle.std.specs.Prelude.{◌≡◌, true, length};
 ghost use Rattle.format.specs.Mesh.{lent};
 ghost use Rattle.format.specs.Canonical.{canonical};

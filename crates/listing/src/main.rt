@@ -1,4 +1,6 @@
 // Reads an object file from standard input and prints its listing. Nothing but the three standard streams and the program's own buffers is touched.
+#![tactic(auto)]
+
 use libc::{STDERR_FILENO, STDIN_FILENO, STDOUT_FILENO};
 use listing_input::{Input, read_input};
 use listing_output::{NAME_BYTES, NAMES, OUTPUT, POINTS, POLYGONS, RECORDS, VERTICES, put_output};

@@ -1,5 +1,7 @@
 // The listing of an answer put into a lent output: an accepted file's counts and its polygons, which the tables hold, or a refusal's line. Nothing but that
 // output is touched.
+#![tactic(auto)]
+
 ghost use Rattle.std.specs.Prelude.{◌+◌, ◌≤◌, length};
 ghost use Rattle.read_answer.specs.Reads.{answer_as};
 ghost use Rattle.listing_text.specs.Prints.{Prints};

@@ -1,5 +1,7 @@
 // The input of the listing program: bytes read from a file descriptor into a lent buffer. Nothing but the buffer and the descriptor is touched. The library's
 // `io::read_full` does not tell a read that fails from the end of the input.
+#![tactic(auto)]
+
 ghost use Rattle.std.specs.Prelude.{◌-◌, ◌≤◌, length};
 ghost use Rattle.io.specs.Counts.{IsPrefixLen};
 ghost use Rattle.listing_input.specs.Input.{InputWithin, InputCounts};

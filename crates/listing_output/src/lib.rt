@@ -1,4 +1,6 @@
 // What the listing program prints for an input: its tables, its limits, and the text put into a lent output. Nothing but the tables and that output is touched.
+#![tactic(auto)]
+
 ghost use Rattle.std.specs.Prelude.{◌<◌};
 ghost use Rattle.io.specs.Counts.{IsPrefixLen};
 ghost use Rattle.listing_output.specs.Program.{input_limit, PrintsInput};

@@ -1,5 +1,7 @@
 // The second pass over a file that was validated: its points, polygons, names and records are put into the six tables, each by a walk over the chunks. The mesh
 // stands at the front of each table, and the rest of it is unchanged.
+#![tactic(auto)]
+
 ghost use Rattle.format.specs.Mesh.{lent};
 ghost use Rattle.load.specs.Promises.{TablesRoom, TablesPut};
 

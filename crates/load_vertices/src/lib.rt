@@ -1,5 +1,7 @@
 // Second pass over what polygons start with: vertices are put into the table of vertices, and the words of a polygon into the table of polygons. What is
 // read was validated before. These words stand in a table from an index on, and the rest of it is unchanged.
+#![tactic(auto)]
+
 pub mod lwob_entry;
 pub mod vertices;
 pub mod words;

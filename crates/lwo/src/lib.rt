@@ -1,5 +1,7 @@
 // The static library for C and Rust: thin functions over the proved reader and writer. A slice is a pointer and a length in elements. No function has
 // a precondition, so that nothing a caller lends can break what is proved.
+#![tactic(auto)]
+
 ghost use Rattle.std.specs.Prelude.{◌≡◌};
 ghost use Rattle.format.specs.Mesh.{lent};
 ghost use Rattle.format.specs.Answer.{Reads};

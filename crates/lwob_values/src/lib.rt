@@ -1,5 +1,7 @@
 // The values of a SURF's sub-chunks in an LWOB file. A sub-chunk is lent as the chunk's bytes up to the sub-chunk's end, is read and is not changed; its header
 // stands at `head` and its body six bytes on.
+#![tactic(auto)]
+
 ghost use Rattle.std.specs.Prelude.{◌+◌, ◌≤◌, length};
 ghost use Rattle.format.specs.Surfaces.{byte_colour, short_level, long_level, flags, lwob_value};
 ghost use Rattle.surface_levels.specs.Promises.{colour_tag, flag_tag, short_tag, long_tag, ValueResultAt};

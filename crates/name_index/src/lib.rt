@@ -4,6 +4,8 @@
 // `heads` has for each bucket the number of its last name, and `links` for each name the number of the one before it in its bucket; numbers count from 1, and 0
 // is none. Names of one bucket are compared byte by byte, so that any multiplier gives the same answers; it is taken from the whole list and changes with each
 // block, so that no list is slow for every multiplier.
+#![tactic(auto)]
+
 pub mod listed;
 
 ghost use Rattle.std.specs.Prelude.{◌≡◌, ◌+◌, ◌-◌, ◌*◌, ◌<◌, ◌≤◌, get_or, set};

@@ -1,4 +1,6 @@
 // How a polygon is laid out in the chunks that hold polygons: both passes go by it. Nothing is read or written here.
+#![tactic(auto)]
+
 ghost use Rattle.std.specs.Prelude.{◌≡◌};
 ghost use Rattle.format.specs.Bodies.{polygon_kind};
 

@@ -1,5 +1,7 @@
 // What a read answers: the number and place of a refusal, or the counts of a file that has a mesh; and whether the lent tables have room for it. Nothing is
 // written.
+#![tactic(auto)]
+
 pub mod answers;
 pub mod room;
 

@@ -1,5 +1,7 @@
 // Reading a file into lent tables: the first pass, the test of room, the second pass, and the answer. Whatever is lent, the answer and the tables are the
 // specification's.
+#![tactic(auto)]
+
 ghost use Rattle.format.specs.Mesh.{lent};
 ghost use Rattle.format.specs.Answer.{Reads};
 ghost use Rattle.read_answer.specs.Reads.{answer_as};

@@ -1,5 +1,7 @@
 // The first pass over a file: its header and then its chunks are validated in file order, and what the tables need is counted. The answer is the first refusal
 // of all, or the counts; nothing is written.
+#![tactic(auto)]
+
 ghost use Rattle.validate.specs.Promises.{FileJudged};
 
 use crate::chunks::{ChunksResult, validate_chunks};

@@ -1,4 +1,6 @@
 // The bytes of a file as the specification's items. A chunk is lent as its bytes from its tag on, and a cursor is a place in them.
+#![tactic(auto)]
+
 use crate::cursor::Cursor;
 use format::Fault;
 

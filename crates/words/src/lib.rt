@@ -1,4 +1,6 @@
 // What reading and writing both ask of bytes and words.
+#![tactic(auto)]
+
 ghost use Rattle.std.specs.Prelude.{◌≡◌, ◌<◌, ◌^◌};
 ghost use Rattle.format.specs.Bytes.{finite, same};
 

@@ -1,4 +1,6 @@
 // The chunks of the runs put into the output: for each run a POLS and, where some of its polygons have a surface or a part name, a PTAG of each.
+#![tactic(auto)]
+
 ghost use Rattle.std.specs.Prelude.{◌≡◌, ◌++◌, map, ◌+◌, ◌*◌, ◌≤◌, ◌<◌, length};
 ghost use Rattle.format.specs.Bytes.{spelt, joined};
 ghost use Rattle.format.specs.Limits.{entry_limit};

@@ -1,4 +1,6 @@
 // SURF chunks put into the output: a name, an empty source, and a sub-chunk for each value, with the envelope 0.
+#![tactic(auto)]
+
 ghost use Rattle.std.specs.Prelude.{◌≡◌, ◌+◌, ◌≤◌, length};
 ghost use Rattle.format.specs.Mesh.{record_size, surface_from};
 ghost use Rattle.format.specs.Canonical.{bytes, chunk_bytes, surface_chunks};

@@ -1,4 +1,6 @@
 // The canonical file of a mesh: what the writer answers, and the file put into a lent output. Nothing is put before its whole length is known to fit.
+#![tactic(auto)]
+
 ghost use Rattle.std.specs.Prelude.{◌≡◌, length};
 ghost use Rattle.format.specs.Mesh.{lent};
 ghost use Rattle.format.specs.Canonical.{canonical};
