@@ -22,7 +22,7 @@ pub const FIRST_LONG_INDEX: u32 = 65280;
 pub const MISSING_COLOUR: f32 = 1.0;
 
 // The two kinds of file.
-#[derive(Drop)]
+#[derive(Clone, Copy)]
 pub enum Kind {
     LWOB,
     LWO2,
@@ -30,7 +30,7 @@ pub enum Kind {
 
 // What sub-chunks stand in: a SURF; a BLOK, whose header has a place; or what holds attributes of a block, which is its header (IMAP, PROC, GRAD or SHDR) or a
 // TMAP.
-#[derive(Drop)]
+#[derive(Clone, Copy)]
 pub enum Container {
     Surf(Kind),
     Blok(usize),
@@ -38,7 +38,7 @@ pub enum Container {
 }
 
 // What can be wrong with a file. specs/Refusals.antt gives each its number.
-#[derive(Drop)]
+#[derive(Clone, Copy)]
 pub enum Fault {
     FileTooLong,
     NotForm,

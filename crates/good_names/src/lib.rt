@@ -102,7 +102,7 @@ fn own_names(lengths: &[u32], bytes: &[u8]) -> bool
 }
 
 // The first name after a block and its place, and whether no name was equal to one at hand.
-#[derive(Drop)]
+#[derive(Clone, Copy)]
 struct AfterBlock {
     next: usize,
     place: usize,

@@ -8,7 +8,7 @@ ghost use Rattle.headers.specs.Promises.{HeaderAt, HeadRead};
 use wire::cursor::{Cursor, left, pair, word};
 
 // A well-formed chunk: its tag, the place where its body ends, and the cursor after its pad.
-#[derive(Drop)]
+#[derive(Clone, Copy)]
 pub enum Header {
     Got { tag: u32, end: usize, next: Cursor },
     Bad,

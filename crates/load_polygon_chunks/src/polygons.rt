@@ -17,7 +17,7 @@ use wire::cursor::{Cursor, left};
 
 // How many points come before the latest list and how many it has, how many names are listed so far, the indices where the words of the latest POLS
 // start and end, and the index after the last vertex.
-#[derive(Drop)]
+#[derive(Clone, Copy)]
 pub struct Latest {
     pub base: u32,
     pub points: usize,

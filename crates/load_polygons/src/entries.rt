@@ -11,7 +11,7 @@ use polygon_layouts::Layout;
 use wire::cursor::Cursor;
 
 // A polygon that was put: the cursor after it, and how many vertices it has.
-#[derive(Drop)]
+#[derive(Clone, Copy)]
 pub struct PolygonStored {
     pub next: Cursor,
     pub vertices: usize,

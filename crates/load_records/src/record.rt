@@ -12,7 +12,7 @@ use load_values::last_values::{Last, LastValues, Levels, last_values};
 use surface_values::strings::strings;
 use wire::Step;
 
-#[derive(Drop)]
+#[derive(Clone, Copy)]
 pub struct Record {
     pub defined: u32,
     pub red: f32,

@@ -14,13 +14,13 @@ use surface_values::value::value_of;
 use wire::cursor::Cursor;
 
 // A level's last value, where one was met.
-#[derive(Drop)]
+#[derive(Clone, Copy)]
 pub struct Last {
     pub met: bool,
     pub level: f32,
 }
 
-#[derive(Drop)]
+#[derive(Clone, Copy)]
 pub struct Levels {
     pub luminosity: Last,
     pub diffuse: Last,
@@ -30,7 +30,7 @@ pub struct Levels {
 }
 
 // The last value of each tag: `long` are LWOB's float forms. A missing colour, FLAG or SIDE is what it stands for.
-#[derive(Drop)]
+#[derive(Clone, Copy)]
 pub struct LastValues {
     pub red: f32,
     pub green: f32,

@@ -8,7 +8,7 @@ pub mod words;
 
 // The lists that the numbers in a polygon are read by: how many points come before the latest list of points, how many that list has, and how many names
 // there are.
-#[derive(Drop)]
+#[derive(Clone, Copy)]
 pub struct Lists {
     pub base: u32,
     pub points: usize,
@@ -16,7 +16,7 @@ pub struct Lists {
 }
 
 // The indices where the words of the polygons, and their vertices, end in the tables. The next polygon is put there.
-#[derive(Drop)]
+#[derive(Clone, Copy)]
 pub struct Ends {
     pub polygons: usize,
     pub vertices: usize,

@@ -9,7 +9,7 @@ use crate::{Ends, Lists};
 use wire::cursor::{Cursor, Number, SignedSurface, SignedSurfaceRead};
 
 // What was put: the cursor after the surface number, how many vertices there are, and that number.
-#[derive(Drop)]
+#[derive(Clone, Copy)]
 pub struct LwobEntryStored {
     pub next: Cursor,
     pub vertices: usize,

@@ -13,7 +13,7 @@ use writer::write;
 
 // The reader's answer: a refusal's number (0 accepted) and its place, the five needs, the skipped chunks and the details.
 #[repr(C)]
-#[derive(Drop)]
+#[derive(Clone, Copy)]
 pub struct LwoAnswer {
     pub number: u64,
     pub place: u64,
@@ -28,7 +28,7 @@ pub struct LwoAnswer {
 
 // The writer's answer: a number, the place 0, and a length: bytes written on 0, bytes needed on 16, else 0.
 #[repr(C)]
-#[derive(Drop)]
+#[derive(Clone, Copy)]
 pub struct LwoWritten {
     pub number: u64,
     pub place: u64,

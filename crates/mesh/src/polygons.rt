@@ -13,7 +13,7 @@ use format::{PART_WORD, POLYGON_WORDS, SURFACE_WORD};
 use words::wide;
 
 // One polygon of the tables: its kind, its surface number, its part name, and the places where its vertices begin and end.
-#[derive(Drop)]
+#[derive(Clone, Copy)]
 pub struct Polygon {
     pub kind: u32,
     pub surface: u32,

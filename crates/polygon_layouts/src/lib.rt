@@ -7,7 +7,7 @@ ghost use Rattle.format.specs.Bodies.{polygon_kind};
 use format::tags::FACE;
 
 // Faces and patches of an LWOB file, and the polygons of an LWO2 file, which are all of one kind.
-#[derive(Drop)]
+#[derive(Clone, Copy)]
 pub enum Layout {
     Faces,
     Patches,

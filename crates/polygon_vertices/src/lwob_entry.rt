@@ -9,7 +9,7 @@ use wire::cursor::{Cursor, SignedSurface, SignedSurfaceRead};
 use wire::{Refusal, Run};
 
 // A polygon's vertices, and its surface number, which stands at `at`: faces, details and patches judge it each in another way.
-#[derive(Drop)]
+#[derive(Clone, Copy)]
 pub enum LwobEntry {
     Got {
         vertices: usize,

@@ -6,7 +6,7 @@ pub mod answers;
 pub mod room;
 
 // The number of a refusal (0 accepted) and its place; the five needs, the skipped chunks and the details, which are 0 on every refusal but 16.
-#[derive(Drop)]
+#[derive(Clone, Copy)]
 pub struct ReadAnswer {
     pub number: u32,
     pub place: usize,

@@ -6,7 +6,7 @@ use wire::Refusal;
 use wire::cursor::{Cursor, Item};
 
 // A float, and the cursor after it.
-#[derive(Drop)]
+#[derive(Clone, Copy)]
 pub enum FloatRead {
     Got(f32, Cursor),
     Stop(Refusal),

@@ -3,7 +3,7 @@ ghost use Rattle.surface_levels.specs.Promises.{by_shading, short_tag, long_tag,
 
 use format::tags::{DIFF, LUMI, REFL, SPEC, TRAN, VDIF, VLUM, VRFL, VSPC, VTRN};
 
-#[derive(Drop)]
+#[derive(Clone, Copy)]
 pub enum Shading {
     Luminosity,
     Diffuse,
@@ -13,7 +13,7 @@ pub enum Shading {
 }
 
 // The level that a tag names, or that it names none.
-#[derive(Drop)]
+#[derive(Clone, Copy)]
 pub enum Named {
     Level(Shading),
     Other,

@@ -4,7 +4,7 @@ use wire::Refusal;
 
 // What a sub-chunk gives: a colour; a level, where `Long` is LWOB's float form that wins over the short one; the number of a FLAG or a SIDE; or nothing
 // where it is not listed.
-#[derive(Drop)]
+#[derive(Clone, Copy)]
 pub enum Value {
     Colour(f32, f32, f32),
     Level(Shading, f32),
@@ -14,7 +14,7 @@ pub enum Value {
     Nothing,
 }
 
-#[derive(Drop)]
+#[derive(Clone, Copy)]
 pub enum ValueResult {
     Got(Value),
     Stop(Refusal),

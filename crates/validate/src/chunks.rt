@@ -11,7 +11,7 @@ use wire::Refusal;
 use wire::cursor::Cursor;
 
 // What was seen with one chunk more, or that chunk's fault.
-#[derive(Drop)]
+#[derive(Clone, Copy)]
 pub enum StepResult {
     Go(Seen),
     Stop(Refusal),
@@ -30,7 +30,7 @@ fn step(s: &[u8], kind: Kind, tag: u32, seen: Seen) -> StepResult
 }
 
 // The first fault with its place in the file, or the counts of its mesh.
-#[derive(Drop)]
+#[derive(Clone, Copy)]
 pub enum ChunksResult {
     Refused(Refusal),
     Counts(Totals),

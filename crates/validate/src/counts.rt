@@ -6,7 +6,7 @@ use validate_chunk::chunk::Counted;
 use validate_chunk::lengths::{Length, Lengths};
 
 // The needs of the mesh, the skipped chunks and the details.
-#[derive(Drop)]
+#[derive(Clone, Copy)]
 pub struct Totals {
     pub points: usize,
     pub polygons: usize,
@@ -17,7 +17,7 @@ pub struct Totals {
     pub details: usize,
 }
 
-#[derive(Drop)]
+#[derive(Clone, Copy)]
 pub struct Seen {
     pub lengths: Lengths,
     pub totals: Totals,

@@ -14,7 +14,7 @@ pub mod chunks;
 pub mod counts;
 
 // The first refusal with its place in the file, or what the tables need.
-#[derive(Drop)]
+#[derive(Clone, Copy)]
 pub enum FileResult {
     Refused(Refusal),
     Counts { kind: Kind, totals: Totals },

@@ -26,7 +26,7 @@ use validate_taggings::tagging::tagging_body;
 use wire::{Checked, Refusal};
 
 // What a chunk adds to the counts. A layer adds nothing to them, and empties the latest lists.
-#[derive(Drop)]
+#[derive(Clone, Copy)]
 pub enum Counted {
     Points(usize),
     Names { count: usize, bytes: usize },
@@ -37,7 +37,7 @@ pub enum Counted {
 }
 
 // What the chunk adds, or its first fault.
-#[derive(Drop)]
+#[derive(Clone, Copy)]
 pub enum Judgement {
     Fine(Counted),
     Stop(Refusal),

@@ -4,14 +4,14 @@ ghost use Rattle.format.specs.Rules.{count};
 ghost use Rattle.validate_chunk.specs.Promises.{length_as};
 
 // How long a list is, where there is one.
-#[derive(Drop)]
+#[derive(Clone, Copy)]
 pub enum Length {
     Missing,
     Of(usize),
 }
 
 // The latest point list, the latest POLS and the name list: what a chunk is judged by besides its bytes.
-#[derive(Drop)]
+#[derive(Clone, Copy)]
 pub struct Lengths {
     pub points: Length,
     pub polygons: Length,

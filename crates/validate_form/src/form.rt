@@ -8,7 +8,7 @@ use format::{Fault, Kind};
 use wire::cursor::word;
 
 // A fault of these bytes is at the file's start.
-#[derive(Drop)]
+#[derive(Clone, Copy)]
 pub enum FormResult {
     Kind(Kind),
     Stop(Fault),

@@ -10,14 +10,14 @@ use wire::Refusal;
 use wire::cursor::{Cursor, Text};
 
 // How many names there are, and how many bytes they have.
-#[derive(Drop)]
+#[derive(Clone, Copy)]
 pub enum Names {
     Got { count: usize, bytes: usize },
     Stop(Refusal),
 }
 
 // Whether all names of a list were at hand at once, and the place that they are judged up to.
-#[derive(Drop)]
+#[derive(Clone, Copy)]
 struct AtOnce {
     all: bool,
     limit: usize,
@@ -68,7 +68,7 @@ fn all_at_hand(s: &[u8]) -> AtOnce
 }
 
 // The place after a block of names, and the place that the names are judged up to.
-#[derive(Drop)]
+#[derive(Clone, Copy)]
 struct Reached {
     next: usize,
     limit: usize,

@@ -10,7 +10,7 @@ use wire::Refusal;
 use wire::cursor::{left, pair};
 
 // How many points there are.
-#[derive(Drop)]
+#[derive(Clone, Copy)]
 pub enum Points {
     Got(usize),
     Stop(Refusal),

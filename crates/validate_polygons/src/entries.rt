@@ -11,7 +11,7 @@ use wire::Refusal;
 use wire::cursor::Cursor;
 
 // One polygon: how many vertices it has, and how many details go with it.
-#[derive(Drop)]
+#[derive(Clone, Copy)]
 pub enum Entry {
     Got {
         vertices: usize,
@@ -22,14 +22,14 @@ pub enum Entry {
 }
 
 // What a body of polygons adds to the needs and the detail count.
-#[derive(Drop)]
+#[derive(Clone, Copy)]
 pub struct Sizes {
     pub polygons: usize,
     pub vertices: usize,
     pub details: usize,
 }
 
-#[derive(Drop)]
+#[derive(Clone, Copy)]
 pub enum Polygons {
     Got(Sizes),
     Stop(Refusal),

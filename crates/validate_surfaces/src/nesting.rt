@@ -14,7 +14,7 @@ use wire::cursor::{Cursor, Text, left};
 use wire::{Checked, Refusal};
 
 // What is left to check of a sub-chunk's body: nothing, or the sub-chunks that it holds from a place on.
-#[derive(Drop)]
+#[derive(Clone, Copy)]
 pub enum Body {
     Judged,
     Holds(Cursor, Container),
@@ -22,7 +22,7 @@ pub enum Body {
 }
 
 // The same of a sub-chunk with its header: the place where its body ends, and the cursor after it.
-#[derive(Drop)]
+#[derive(Clone, Copy)]
 pub enum SubChunk {
     Judged(Cursor),
     Holds {

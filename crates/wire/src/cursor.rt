@@ -7,47 +7,47 @@ ghost use Rattle.wire.specs.Promises.{signed_surface_of, fault_of, NumberAt, I2A
 use format::{FIRST_LONG_INDEX, Fault};
 use words::is_finite;
 
-#[derive(Drop)]
+#[derive(Clone, Copy)]
 pub struct Cursor {
     pub at: usize,
 }
 
 // U2 or U4: the number and the moved cursor, or that the item is cut.
-#[derive(Drop)]
+#[derive(Clone, Copy)]
 pub enum Number {
     Got(u32, Cursor),
     Cut,
 }
 
 // I2
-#[derive(Drop)]
+#[derive(Clone, Copy)]
 pub enum I2Read {
     Got(i16, Cursor),
     Cut,
 }
 
 // A surface number of an LWOB file: its absolute value, and whether it was negative.
-#[derive(Drop)]
+#[derive(Clone, Copy)]
 pub struct SignedSurface {
     pub number: u32,
     pub negative: bool,
 }
 
-#[derive(Drop)]
+#[derive(Clone, Copy)]
 pub enum SignedSurfaceRead {
     Got(SignedSurface, Cursor),
     Cut,
 }
 
 // VX, or an item whose value is judged: the number and the moved cursor, or the fault, which is at the cursor that it was read by.
-#[derive(Drop)]
+#[derive(Clone, Copy)]
 pub enum Item {
     Got(u32, Cursor),
     Stop(Fault),
 }
 
 // A string: how long the name is, which starts at the cursor that it was read by.
-#[derive(Drop)]
+#[derive(Clone, Copy)]
 pub enum Text {
     Got(usize, Cursor),
     Open,

@@ -21,7 +21,7 @@ use write_surfaces::put_surfaces;
 pub mod chunks;
 
 // The number of a refusal (0 written), the place 0, and a length: bytes written on 0, bytes needed on 16, else 0.
-#[derive(Drop)]
+#[derive(Clone, Copy)]
 pub struct WriteAnswer {
     pub number: u32,
     pub place: usize,
