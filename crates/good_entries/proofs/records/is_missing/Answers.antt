@@ -1,0 +1,7 @@
+-- The ten words of the missing record are compared by bits; those of the missing colour are computed.
+use lib.Ieee.{of_bits, to_bits}
+use Rattle.good_entries.proofs.records.is_missing.Goals as goal
+
+pub returns : goal.returns
+unfolding to_bits of_bits
+returns c = c.same_words.ensures

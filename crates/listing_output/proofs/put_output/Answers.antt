@@ -1,0 +1,30 @@
+-- An input is too long where more of it was read than may be; any other was read whole, and into tables of the program's lengths.
+use borrow.Author.Rules.{rules}
+use Rattle.listing_text.proofs.PrintedSoFar.{wrote_all}
+use Rattle.listing_answer.proofs.AfterReading.{after_reading}
+use Rattle.listing_output.proofs.FileListing.{wrote_file}
+use Rattle.listing_output.proofs.PrintedInput.{not_read, was_read, counts}
+use Rattle.listing_output.proofs.put_output.Goals as goal
+
+pub returns-then-input-gt65536 : goal.returns-then-input-gt65536
+returns-then-input-gt65536 c = (not_read c.if-input-gt65536.true c.put_bytes.ensures, counts (wrote_all c.put_bytes.ensures) (search rules))
+
+pub put_listing-requires : goal.put_listing-requires
+put_listing-requires c = record { counts_held = (after_reading c.read-answer.ensures).counts_held; room = search rules }
+
+pub returns : goal.returns
+returns c =
+    let listed =
+    wrote_file c.read-answer.ensures
+    (record {
+      points = c.read-arg-1.given.0.1;
+      polygons = c.read-arg-2-1.given.0.1;
+      vertices = c.read-arg-3-1.given.0.1;
+      names = c.read-arg-4-1.given.0.1;
+      name_bytes = c.read-arg-5-1.given.0.1;
+      records = c.read-arg-6-1.given.0.1;
+    })
+    c.put_listing.ensures.wrote in (
+      was_read c.requires c.if-input-gt65536.false listed,
+      counts c.put_listing.ensures (put_listing-requires c c.put_listing.lifetimes).room,
+    )

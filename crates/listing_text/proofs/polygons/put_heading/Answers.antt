@@ -1,0 +1,12 @@
+-- Five texts, one behind the other: number, kind, surface and part name behind their labels, and the label of the vertices.
+use Rattle.listing_text.specs.Text.{heading}
+use Rattle.listing_text.proofs.PrintedSoFar.{wrote_all, five_print}
+use Rattle.listing_text.proofs.polygons.put_heading.Goals as goal
+
+pub returns : goal.returns
+unfolding heading
+returns c =
+    let second = rw c.wide.ensures.0 at c.put_labelled-to_surface.ensures in
+    let third = rw c.wide-2.ensures.0 at c.put_labelled-to_part.ensures in
+    let fourth = rw c.wide-3.ensures.0 at c.put_labelled-to_end.ensures in
+    five_print c.put_labelled-to_kind.ensures second third fourth (wrote_all c.put_bytes.ensures) c.requires

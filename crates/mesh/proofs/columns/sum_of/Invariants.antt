@@ -1,0 +1,13 @@
+-- A walk over one word of each entry: what was added so far and the sum of those that are left make the sum.
+use Prim.Native.Nat.{◌-◌}
+use lib.ListN.{length}
+use Rattle.format.specs.Bytes.{sum}
+use Rattle.mesh.specs.Lent.{column}
+use Rattle.mesh.proofs.ColumnWalk.{ColumnWalk}
+use Rattle.mesh.proofs.columns.sum_of.Given as goal
+
+abbrev pub invariant-loop-at : goal.invariant-loop-at
+invariant-loop-at l = ColumnWalk l.words l.size l.index (SumLeft (sum (column l.size l.index l.words)) l.total l.at) l.at
+
+abbrev pub decreases-loop-at : goal.decreases-loop-at
+decreases-loop-at l = length l.words - l.at

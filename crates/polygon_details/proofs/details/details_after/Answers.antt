@@ -1,0 +1,11 @@
+-- A negative sign gives what `details` gives, and any other nothing.
+use mathlib.Core.Path.{refl}
+use native.Mathlib.Omega.{arith}
+use Rattle.format.proofs.ReaderSteps.{given}
+use Rattle.polygon_details.proofs.details.details_after.Goals as goal
+
+pub returns-then-negative : goal.returns-then-negative
+returns-then-negative c = rw c.if-negative.true c.details.ensures
+
+pub returns-else-negative : goal.returns-else-negative
+returns-else-negative c = rw c.if-negative.false (record { says = given refl; moves = omega arith })

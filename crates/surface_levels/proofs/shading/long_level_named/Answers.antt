@@ -1,0 +1,7 @@
+-- The tags are the numbers of their four letters.
+use Rattle.format.specs.Bytes.{number}
+use Rattle.surface_levels.proofs.shading.long_level_named.Goals as goal
+
+pub returns : goal.returns
+unfolding number
+returns c = c.named_among.ensures

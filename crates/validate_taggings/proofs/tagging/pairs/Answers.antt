@@ -1,0 +1,29 @@
+-- Each turn reads one pair more, up to the end or the first fault.
+use mathlib.Core.Path.{refl}
+use Prim.Native.Nat.{◌-◌}
+use native.Mathlib.Omega.{arith}
+use Rattle.format.specs.Promises.{nothing}
+use Rattle.format.proofs.Entries.{many_alone, many_turn, many_stop, many_end}
+use Rattle.format.proofs.ReaderSteps.{used_up, faulty}
+use Rattle.validate_taggings.proofs.tagging.pairs.Goals as goal
+
+pub loop-at-init : goal.loop-at-init
+loop-at-init c = many_alone nothing (λ ps. tt) (λ ps. refl)
+
+pub returns-in-Stop : goal.returns-in-Stop
+returns-in-Stop c =
+    let w = rw c.in-Stop.is at c.one_pair.ensures in
+    faulty (record { is = many_stop c.loop-at.invariant c.loop-at-test.true w.says })
+
+pub loop-at-smaller : goal.loop-at-smaller
+loop-at-smaller c =
+    let w = rw c.in-At.is at c.one_pair.ensures in
+    omega (arith, w.moves, c.loop-at-test.true)
+
+pub loop-at-preserved : goal.loop-at-preserved
+loop-at-preserved c =
+    let w = rw c.in-At.is at c.one_pair.ensures in
+    many_turn c.loop-at.invariant c.loop-at-test.true w.says (omega (arith, w.moves)) (λ x xs e. refl)
+
+pub returns : goal.returns
+returns c = used_up (record { is = many_end c.loop-at.invariant c.loop-at-test.false }) c.loop-at-test.false

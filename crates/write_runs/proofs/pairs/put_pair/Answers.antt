@@ -1,0 +1,25 @@
+-- A polygon whose number is 0 has no pair; else its index is put, and its tag behind it.
+use Prim.Native.Nat.{◌-◌}
+use native.Mathlib.Omega.{arith}
+use Rattle.format.proofs.CanonicalLengths.{length_bytes}
+use Rattle.output.proofs.PutSoFar.{wrote_none, then-wrote}
+use Rattle.mesh.proofs.Pairs.{no_pair, a_pair, pair_parts}
+use Rattle.write_runs.proofs.pairs.put_pair.Goals as goal
+
+pub returns-then-number-eq0 : goal.returns-then-number-eq0
+returns-then-number-eq0 c = rw (no_pair c.args.i c.args.number c.if-number-eq0.true) wrote_none
+
+pub put_vx-next-requires : goal.put_vx-next-requires
+put_vx-next-requires c =
+    let some = c.if-number-eq0.false in
+    (c.requires.0, omega (arith, pair_parts c.args.i c.args.number some, length_bytes 2 (c.args.number - 1), c.requires.1))
+
+pub put_u2-requires : goal.put_u2-requires
+put_u2-requires c =
+    let some = c.if-number-eq0.false in
+    omega (arith, pair_parts c.args.i c.args.number some, length_bytes 2 (c.args.number - 1), c.requires.1, c.put_vx-next.ensures.next_is, c.put_vx-next.ensures.kept)
+
+pub returns : goal.returns
+returns c =
+    let some = c.if-number-eq0.false in
+    rw (a_pair c.args.i c.args.number some) (then-wrote c.put_vx-next.ensures c.put_u2.ensures (omega (arith, pair_parts c.args.i c.args.number some, length_bytes 2 (c.args.number - 1), c.requires.1)))
