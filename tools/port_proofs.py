@@ -136,6 +136,7 @@ def turn(folder, names_folder):
     names = Names(entry)
     with open(path, encoding="utf-8") as f:
         text = f.read()
+    text = respelled(text)
     decls, tail = blocks(text)
     first, rest = [], []
     # the file's own head: comments and imports
@@ -183,7 +184,7 @@ def turn(folder, names_folder):
                 new = "UNKNOWN-" + need
             renames[m[2]] = new
     heads_common = {"c", "u", "x"}
-    at_place = {}
+    at_place, places = {}, set()
     for kind, m, comments, lines in parsed:
         body = "\n".join(lines)
         if kind == "loop":
@@ -227,7 +228,13 @@ def turn(folder, names_folder):
                 break
             body = body[: a.start()] + re.sub(rf"(?<![\w.'-]){re.escape(a[1])}(?![\w'-])", a[2], body[a.end() :])
         # types of places
-        body = re.sub(r"tie\.((?:After|At|In|Then|Else|Start|Tied)[\w+-]*)(?: invariant_loop\d* decreases_loop\d*)*", lambda k: "goal." + names.places.get(norm(k[1]), "UNKNOWN-" + k[1]), body)
+        def place(k):
+            new = names.places.get(norm(k[1]), "UNKNOWN-" + k[1])
+            new = re.sub(r"^(In[-_].*?)-\d$", r"\1", new)
+            places.add(new)
+            return "goal." + new
+
+        body = re.sub(r"tie\.((?:After|At|In|Then|Else|Start|Tied)[\w+-]*)(?: invariant_loop\d* decreases_loop\d*)*", place, body)
         # in a lemma over such a record every variable may be its head
         for a in re.findall(rf"\(({TOKEN}) : goal\.", body):
             heads.add(a)
@@ -241,6 +248,8 @@ def turn(folder, names_folder):
             t = re.match(rf"(?:(?:pub|abbrev) )*({TOKEN}) : (?:\({TOKEN} : )?goal\.({TOKEN})", body)
             if t:
                 at_place[t[1]] = t[2]
+        for new in places:
+            body = re.sub(rf"goal\.{re.escape(new)}(?![\w+-])", new, body)
         if kind == "answer":
             # a lemma over the record of a place
             goal = renames[m[2]]
@@ -288,6 +297,8 @@ def turn(folder, names_folder):
         code = "\n\n".join("\n".join([*comments, *lines]) for comments, lines in parts)
         used = []
         for u in uses:
+            if module == "Given" and u.startswith(f"use {base}.Invariants."):
+                continue
             mm = re.match(r"use (\S+?)(?:\.)?\{(.*)\}$", u)
             if mm:
                 kept = [it for it in split_items(mm[2]) if is_used(it, code)]
@@ -298,9 +309,27 @@ def turn(folder, names_folder):
                 name = alias[1] if alias else u.split(".")[-1]
                 if re.search(rf"(?<![\w'-]){re.escape(name)}(?![\w'-])", code):
                     used.append(u)
+        if module == "Goals" and places:
+            used.append(f"use {base}.Goals.{{{', '.join(sorted(places))}}}")
         used.append(f"use {base}.{module} as goal")
         return "\n".join([*title, *used, "", code]) + "\n"
 
+    # what an invariant is said with stands beside it
+    moved = []
+    while True:
+        code = "\n".join("\n".join(lines) for _, lines in invariants + moved)
+        more = [(c, ls) for c, ls in answers if (m := re.match(rf"(?:(?:pub|abbrev|unfoldable|data|record) )*({TOKEN})", ls[0])) and not re.match(r"pub .* : goal\.", ls[0]) and is_used(m[1], code)]
+        if not more:
+            break
+        moved += more
+        answers = [a for a in answers if a not in more]
+    if moved:
+        SAID.append(f"{folder}: with its invariants: {[ls[0] for _, ls in moved]}")
+        public = lambda line: re.sub(r"^(\s*)(record |abbrev |unfoldable |data )?(?=\S+.*:)", lambda k: f"{k[1]}{k[2] or ''}pub " if k[2] in ("abbrev ", "unfoldable ") else f"{k[1]}pub {k[2] or ''}", line)
+        moved = [(c, [public(l) if not l.startswith(" ") or ls[0].startswith("record") else l for l in ls]) for c, ls in moved]
+        names_moved = [re.match(rf"(?:(?:pub|abbrev|unfoldable|data|record) )*({TOKEN})", ls[0])[1] for _, ls in moved]
+        uses.append(f"use {base}.Invariants.{{{', '.join(names_moved)}}}")
+        invariants = moved + invariants
     made = []
     if invariants:
         made.append(("Invariants.antt", render(invariants, "Given")))
@@ -313,6 +342,16 @@ def turn(folder, names_folder):
     return True
 
 
+def respelled(text):
+    """Names of this repository's own lemmas that a dash is left in, since they look like those that Rattle makes."""
+    turned = {}
+    for path, items in re.findall(r"^use (Rattle\.(?!std)\S+?)\.\{(.*)\}$", text, re.M):
+        for it in re.split(r",\s*| as ", items):
+            if re.search(r"\w-\w", it):
+                turned[it] = it.replace("-", "_")
+    return re.sub(TOKEN, lambda k: turned.get(k[0], k[0]), text)
+
+
 def split_items(items):
     return [it.strip() for it in re.split(r",\s*", items) if it.strip()]
 
@@ -322,7 +361,7 @@ def is_used(item, code):
     parts = [p for p in name.split("◌") if p]
     if "◌" in name:
         return all(re.search(rf"(?<![\w'-]){re.escape(p)}(?![\w'-])" if re.match(r"\w", p) else re.escape(p), code) for p in parts)
-    return bool(re.search(rf"(?<![\w'-]){re.escape(name)}(?![\w'-])", code))
+    return bool(re.search(rf"(?<![\w.'-]){re.escape(name)}(?![\w'-])", code))
 
 
 def main():

@@ -64,40 +64,40 @@ GoodParts kind b parts = EachPart (λ b part. good_part kind b part ≡ true) b 
 
 -- ---- points and names
 
-points_good : {kind : Kind} {b : Before} {parts : List Part} → GoodParts kind b parts
+points_good : (kind : Kind) {b : Before} {parts : List Part} → GoodParts kind b parts
     → all (λ p. all finite (point_words p)) (joined (map points_of parts)) ≡ true
 unfolding joined added all
-points_good no_more = refl
-points_good (one_more {part = point_list ps} g gs) = all_append_true _ ps _ g (points_good gs)
-points_good (one_more {part = name_list ns} g gs) = points_good gs
-points_good (one_more {part = polygon_list ps n} g gs) = points_good gs
-points_good (one_more {part = tagging t ts} g gs) = points_good gs
-points_good (one_more {part = surface s} g gs) = points_good gs
-points_good (one_more {part = layer} g gs) = points_good gs
-points_good (one_more {part = skipped_chunk} g gs) = points_good gs
+points_good kind no_more = refl
+points_good kind (one_more {part = point_list ps} g gs) = all_append_true _ ps _ g (points_good kind gs)
+points_good kind (one_more {part = name_list ns} g gs) = points_good kind gs
+points_good kind (one_more {part = polygon_list ps n} g gs) = points_good kind gs
+points_good kind (one_more {part = tagging t ts} g gs) = points_good kind gs
+points_good kind (one_more {part = surface s} g gs) = points_good kind gs
+points_good kind (one_more {part = layer} g gs) = points_good kind gs
+points_good kind (one_more {part = skipped_chunk} g gs) = points_good kind gs
 
 -- names come once
-no_more_names : {kind : Kind} {b : Before} {parts : List Part} → GoodParts kind b parts → there b.names ≡ true → joined (map names_of parts) ≡ []
+no_more_names : (kind : Kind) {b : Before} {parts : List Part} → GoodParts kind b parts → there b.names ≡ true → joined (map names_of parts) ≡ []
 unfolding joined added after
-no_more_names no_more e = refl
-no_more_names (one_more {part = point_list ps} g gs) e = no_more_names gs e
-no_more_names (one_more {b = b} {part = name_list ns} g gs) e = absurd (true≢false (sym e ∙ not-true (there b.names) ((and-eq-true_iff (not (there b.names)) (good_names [] ns)).0 g).0))
-no_more_names (one_more {part = polygon_list ps n} g gs) e = no_more_names gs e
-no_more_names (one_more {part = tagging t ts} g gs) e = no_more_names gs e
-no_more_names (one_more {part = surface s} g gs) e = no_more_names gs e
-no_more_names (one_more {part = layer} g gs) e = no_more_names gs e
-no_more_names (one_more {part = skipped_chunk} g gs) e = no_more_names gs e
+no_more_names kind no_more e = refl
+no_more_names kind (one_more {part = point_list ps} g gs) e = no_more_names kind gs e
+no_more_names kind (one_more {b = b} {part = name_list ns} g gs) e = absurd (true≢false (sym e ∙ not-true (there b.names) ((and-eq-true_iff (not (there b.names)) (good_names [] ns)).0 g).0))
+no_more_names kind (one_more {part = polygon_list ps n} g gs) e = no_more_names kind gs e
+no_more_names kind (one_more {part = tagging t ts} g gs) e = no_more_names kind gs e
+no_more_names kind (one_more {part = surface s} g gs) e = no_more_names kind gs e
+no_more_names kind (one_more {part = layer} g gs) e = no_more_names kind gs e
+no_more_names kind (one_more {part = skipped_chunk} g gs) e = no_more_names kind gs e
 
-names_good : {kind : Kind} {b : Before} {parts : List Part} → GoodParts kind b parts → good_names [] (joined (map names_of parts)) ≡ true
+names_good : (kind : Kind) {b : Before} {parts : List Part} → GoodParts kind b parts → good_names [] (joined (map names_of parts)) ≡ true
 unfolding joined added good_names after
-names_good no_more = refl
-names_good (one_more {part = point_list ps} g gs) = names_good gs
-names_good (one_more {b = b} {part = name_list ns} g gs) = rw (no_more_names gs refl, append-nil ns) ((and-eq-true_iff (not (there b.names)) (good_names [] ns)).0 g).1
-names_good (one_more {part = polygon_list ps n} g gs) = names_good gs
-names_good (one_more {part = tagging t ts} g gs) = names_good gs
-names_good (one_more {part = surface s} g gs) = names_good gs
-names_good (one_more {part = layer} g gs) = names_good gs
-names_good (one_more {part = skipped_chunk} g gs) = names_good gs
+names_good kind no_more = refl
+names_good kind (one_more {part = point_list ps} g gs) = names_good kind gs
+names_good kind (one_more {b = b} {part = name_list ns} g gs) = rw (no_more_names kind gs refl, append-nil ns) ((and-eq-true_iff (not (there b.names)) (good_names [] ns)).0 g).1
+names_good kind (one_more {part = polygon_list ps n} g gs) = names_good kind gs
+names_good kind (one_more {part = tagging t ts} g gs) = names_good kind gs
+names_good kind (one_more {part = surface s} g gs) = names_good kind gs
+names_good kind (one_more {part = layer} g gs) = names_good kind gs
+names_good kind (one_more {part = skipped_chunk} g gs) = names_good kind gs
 
 -- ---- polygons
 
@@ -160,25 +160,25 @@ module _ (P N : ℕ) where
       (retag_good type t.0 t.1 ps (omega arith) (leb-true t.1 tag_limit here.1) g)
 
   -- The latest points start after `base` others and are all before `end`; what the later parts add comes behind.
-  polygons_good : {kind : Kind} {b : Before} {parts : List Part} → GoodParts kind b parts → (base end : ℕ) (latest : List Polygon)
+  polygons_good : (kind : Kind) {b : Before} {parts : List Part} → GoodParts kind b parts → (base end : ℕ) (latest : List Polygon)
       → base + count b.points ≤ end
       → end + length (joined (map points_of parts)) ≤ P → count b.names + length (joined (map names_of parts)) ≤ N → all (good_polygon P N) latest ≡ true
       → all (good_polygon P N) (polygons_in base end latest parts) ≡ true
   unfolding polygons_in joined added after all
-  polygons_good no_more base end latest l points_in names_in g = g
-  polygons_good (one_more {part = point_list ps} {parts = parts} h gs) base end latest l points_in names_in g =
-      polygons_good gs end (end + length ps) latest (omega arith) (omega (arith, length-append ps (joined (map points_of parts)))) names_in g
-  polygons_good (one_more {part = name_list ns} {parts = parts} h gs) base end latest l points_in names_in g =
-      polygons_good gs base end latest l points_in (omega (arith, length-append ns (joined (map names_of parts)))) g
-  polygons_good (one_more {b = b} {part = polygon_list ps n} h gs) base end latest l points_in names_in g =
+  polygons_good kind no_more base end latest l points_in names_in g = g
+  polygons_good kind (one_more {part = point_list ps} {parts = parts} h gs) base end latest l points_in names_in g =
+      polygons_good kind gs end (end + length ps) latest (omega arith) (omega (arith, length-append ps (joined (map points_of parts)))) names_in g
+  polygons_good kind (one_more {part = name_list ns} {parts = parts} h gs) base end latest l points_in names_in g =
+      polygons_good kind gs base end latest l points_in (omega (arith, length-append ns (joined (map names_of parts)))) g
+  polygons_good kind (one_more {b = b} {part = polygon_list ps n} h gs) base end latest l points_in names_in g =
       all_append_true (good_polygon P N) latest _ g
-      (polygons_good gs base end (map (from base) ps) l points_in names_in (all_moved base (count b.points) (count b.names) ps (omega arith) (omega arith) h))
-  polygons_good (one_more {b = b} {part = tagging t ts} h gs) base end latest l points_in names_in g =
-      polygons_good gs base end (tagged latest t ts) l points_in names_in (tagged_good t (count b.names) ts latest (omega arith) h g)
-  polygons_good (one_more {part = surface s} h gs) base end latest l points_in names_in g = polygons_good gs base end latest l points_in names_in g
-  polygons_good (one_more {part = layer} h gs) base end latest l points_in names_in g =
-      all_append_true (good_polygon P N) latest _ g (polygons_good gs end end [] (omega arith) points_in names_in refl)
-  polygons_good (one_more {part = skipped_chunk} h gs) base end latest l points_in names_in g = polygons_good gs base end latest l points_in names_in g
+      (polygons_good kind gs base end (map (from base) ps) l points_in names_in (all_moved base (count b.points) (count b.names) ps (omega arith) (omega arith) h))
+  polygons_good kind (one_more {b = b} {part = tagging t ts} h gs) base end latest l points_in names_in g =
+      polygons_good kind gs base end (tagged latest t ts) l points_in names_in (tagged_good t (count b.names) ts latest (omega arith) h g)
+  polygons_good kind (one_more {part = surface s} h gs) base end latest l points_in names_in g = polygons_good kind gs base end latest l points_in names_in g
+  polygons_good kind (one_more {part = layer} h gs) base end latest l points_in names_in g =
+      all_append_true (good_polygon P N) latest _ g (polygons_good kind gs end end [] (omega arith) points_in names_in refl)
+  polygons_good kind (one_more {part = skipped_chunk} h gs) base end latest l points_in names_in g = polygons_good kind gs base end latest l points_in names_in g
 
 -- ---- surfaces
 
@@ -261,17 +261,17 @@ record_good LWO2 vs e = lwo2_record vs e
 
 -- ---- the surfaces of a file
 
-surfaces_good : {kind : Kind} {b : Before} {parts : List Part} → GoodParts kind b parts
+surfaces_good : (kind : Kind) {b : Before} {parts : List Part} → GoodParts kind b parts
     → all (λ s. all (good_value kind) s.values) (joined (map surfaces_of parts)) ≡ true
 unfolding joined added all
-surfaces_good no_more = refl
-surfaces_good (one_more {part = point_list ps} g gs) = surfaces_good gs
-surfaces_good (one_more {part = name_list ns} g gs) = surfaces_good gs
-surfaces_good (one_more {part = polygon_list ps n} g gs) = surfaces_good gs
-surfaces_good (one_more {part = tagging t ts} g gs) = surfaces_good gs
-surfaces_good (one_more {part = surface s} g gs) = both g (surfaces_good gs)
-surfaces_good (one_more {part = layer} g gs) = surfaces_good gs
-surfaces_good (one_more {part = skipped_chunk} g gs) = surfaces_good gs
+surfaces_good kind no_more = refl
+surfaces_good kind (one_more {part = point_list ps} g gs) = surfaces_good kind gs
+surfaces_good kind (one_more {part = name_list ns} g gs) = surfaces_good kind gs
+surfaces_good kind (one_more {part = polygon_list ps n} g gs) = surfaces_good kind gs
+surfaces_good kind (one_more {part = tagging t ts} g gs) = surfaces_good kind gs
+surfaces_good kind (one_more {part = surface s} g gs) = both g (surfaces_good kind gs)
+surfaces_good kind (one_more {part = layer} g gs) = surfaces_good kind gs
+surfaces_good kind (one_more {part = skipped_chunk} g gs) = surfaces_good kind gs
 
 standing_good : (kind : Kind) (n : Name) (now : Option SurfaceChunk) (ss : List SurfaceChunk) → all (λ s. all (good_value kind) s.values) ss ≡ true
     → good_surface (record_for kind now) ≡ true
@@ -304,8 +304,8 @@ mesh_good kind parts g =
     let ss : List SurfaceChunk = joined (map surfaces_of parts) in
     let P : ℕ = length (joined (map points_of parts)) in
     let found : Name → Surface = λ n. record_for kind (standing n none ss) in
-    rw (eq-eqb (length (map found ns)) (length ns) (length-map ns found), points_good g, names_good g, all_standing kind ns ss (surfaces_good g))
-    (rw (polygons_good P (length ns) g 0 0 [] (omega arith) (omega arith) (omega arith) refl) refl)
+    rw (eq-eqb (length (map found ns)) (length ns) (length-map ns found), points_good kind g, names_good kind g, all_standing kind ns ss (surfaces_good kind g))
+    (rw (polygons_good P (length ns) kind g 0 0 [] (omega arith) (omega arith) (omega arith) refl) refl)
 
 -- what the rules give a file of bytes is a mesh
 pub accepted_good : (file : List ℕ) {m : Mesh} {k d : ℕ} → all byte file ≡ true → rules file ≡ gives m k d → good_mesh m ≡ true

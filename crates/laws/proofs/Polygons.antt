@@ -1,9 +1,9 @@
 -- The runs that a canonical file cuts the polygons into: their parts make the polygons again, with their kinds and tags.
 use Prim.Native.Nat.{ℕ, suc, ◌+◌}
 use Prim.Native.String.{String}
-use mathlib.Core.Path.{◌≡◌, refl, sym, ap, ◌∙◌}
+use mathlib.Core.Path.{◌≡◌, refl, sym, ap, subst, ◌∙◌}
 use mathlib.Core.List.{List, [], ◌∷◌, ◌++◌, map, append_assoc, append-nil, map-id}
-use mathlib.Core.Bool.{Bool, true, false}
+use mathlib.Core.Bool.{Bool, true, false, ◌&&◌}
 use native.Mathlib.Omega.{arith}
 use native.Mathlib.Nat.{zero-add}
 use lib.Dec.{eqb}
@@ -48,7 +48,9 @@ kind_ahead p ([] ∷ rs) ok = ok
 kind_ahead p ((q ∷ r) ∷ rs) ok = go (eqb p.kind q.kind) refl
   where
     go : (b : Bool) → eqb p.kind q.kind ≡ b → all one_kind (if b then (p ∷ q ∷ r) ∷ rs else (p ∷ []) ∷ (q ∷ r) ∷ rs) ≡ true
-    go true e = let same : p.kind ≡ q.kind = eqb-true p.kind q.kind e in rw (same, eq-eqb q.kind q.kind refl) ok
+    go true e = let same : p.kind ≡ q.kind = eqb-true p.kind q.kind e in
+        let Of : ℕ → Type 0 = λ k. ((eqb q.kind k && all (λ x. eqb x.kind k) r) && all one_kind rs) ≡ true in
+        subst Of (sym same) (rw (eq-eqb q.kind q.kind refl) ok)
     go false e = ok
 
 kind_runs : (ps : List Polygon) → all one_kind (runs ps) ≡ true

@@ -13,7 +13,7 @@ use Rattle.format.specs.declared.Kind.{Kind}
 use Rattle.format.specs.Chunks.{Chunk, size_of, Chunks, finished, broken, chunk}
 use Rattle.format.specs.Mesh.{Mesh, Polygon}
 use Rattle.format.specs.Bodies.{Part, point_list, name_list, polygon_list, tagging, surface, layer, skipped_chunk}
-use Rattle.format.specs.Rules.{added, unlisted_tag, Before, start, after, points_of, names_of, surfaces_of, skipped_of, details_of, polygons_in, mesh_of, gives}
+use Rattle.format.specs.Rules.{added, unlisted_tag, Before, start, after, points_of, names_of, surfaces_of, skipped_of, details_of, from, tagged, polygons_in, mesh_of, gives}
 use Rattle.format.proofs.Facts.{impossible}
 use Rattle.format.proofs.ListedTags.{skips}
 use Rattle.format.specs.Promises.{walk_parts}
@@ -71,13 +71,13 @@ polygons_same : (base end : ℕ) (latest : List Polygon) (ps qs : List Part)
     → polygons_in base end latest (ps ++ skipped_chunk ∷ qs) ≡ polygons_in base end latest (ps ++ qs)
 unfolding polygons_in
 polygons_same base end latest [] qs = refl
-polygons_same base end latest (point_list pts ∷ ps) qs = polygons_same _ _ _ ps qs
-polygons_same base end latest (name_list ns ∷ ps) qs = polygons_same _ _ _ ps qs
-polygons_same base end latest (polygon_list gs n ∷ ps) qs = ap (λ (l : List Polygon). latest ++ l) (polygons_same _ _ _ ps qs)
-polygons_same base end latest (tagging t ts ∷ ps) qs = polygons_same _ _ _ ps qs
-polygons_same base end latest (surface s ∷ ps) qs = polygons_same _ _ _ ps qs
-polygons_same base end latest (layer ∷ ps) qs = ap (λ (l : List Polygon). latest ++ l) (polygons_same _ _ _ ps qs)
-polygons_same base end latest (skipped_chunk ∷ ps) qs = polygons_same _ _ _ ps qs
+polygons_same base end latest (point_list pts ∷ ps) qs = polygons_same end (end + length pts) latest ps qs
+polygons_same base end latest (name_list ns ∷ ps) qs = polygons_same base end latest ps qs
+polygons_same base end latest (polygon_list gs n ∷ ps) qs = ap (λ (l : List Polygon). latest ++ l) (polygons_same base end (map (from base) gs) ps qs)
+polygons_same base end latest (tagging t ts ∷ ps) qs = polygons_same base end (tagged latest t ts) ps qs
+polygons_same base end latest (surface s ∷ ps) qs = polygons_same base end latest ps qs
+polygons_same base end latest (layer ∷ ps) qs = ap (λ (l : List Polygon). latest ++ l) (polygons_same end end [] ps qs)
+polygons_same base end latest (skipped_chunk ∷ ps) qs = polygons_same base end latest ps qs
 
 mesh_same : (kind : Kind) (ps qs : List Part) → mesh_of kind (ps ++ skipped_chunk ∷ qs) ≡ mesh_of kind (ps ++ qs)
 unfolding mesh_of added

@@ -96,7 +96,7 @@ taken_out {b} {b'} l p q at_end parts e =
 taken_out {b} l p q no_chunk parts e = let bad = sym (parts_broken LWO2 b p) ∙ e in impossible cc
 taken_out {b} {b'} l p q (kept {t = t} {body = body} {rest = rest} {rest' = rest'} r) parts e =
     let x = next LWO2 b p t body rest parts e in
-    let later = taken_out (no_less_after l x.part) _ (q + size_of 4 (length body)) r x.later x.onward in
+    let later = taken_out {b = after b x.part} {b' = after b' x.part} (no_less_after l x.part) (p + size_of 4 (length body)) (q + size_of 4 (length body)) r x.later x.onward in
     rw (← x.both)
     (record {
       fewer = x.part ∷ later.fewer;
@@ -106,7 +106,7 @@ taken_out {b} {b'} l p q (kept {t = t} {body = body} {rest = rest} {rest' = rest
 taken_out {b} {b'} l p q (out {t = t} {body = body} {rest = rest} i r) parts e =
     let x = next LWO2 b p t body rest parts e in
     let same : x.part ≡ layer = ((holds_layer i).each b body x.part x.here).part_is in
-    let later = taken_out (no_less_layer l) _ q r x.later (rw same at x.onward) in
+    let later = taken_out {b = after b layer} {b' = b'} (no_less_layer l) (p + size_of 4 (length body)) q r x.later (rw same at x.onward) in
     rw (← x.both, same) (record { fewer = later.fewer; walked = later.walked; left_out = out_part later.left_out })
 
 -- "The mesh doesn't keep the layer": with some of its layers left out, or all, an accepted file has the same mesh and the same counts

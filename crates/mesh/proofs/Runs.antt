@@ -1,6 +1,6 @@
 -- The first run of what is left, by the places where it begins and ends: its words and vertices are in front, and the other runs are of what stands after.
 use Prim.Native.Nat.{ℕ, zero, suc, ◌+◌, ◌-◌, ◌*◌, ◌/◌, ◌<◌, ◌≤◌}
-use mathlib.Core.Path.{◌≡◌, refl, sym, ap, ◌∙◌}
+use mathlib.Core.Path.{subst, ◌≡◌, refl, sym, ap, ◌∙◌}
 use mathlib.Core.List.{List, [], ◌∷◌, ◌++◌, map, map-append}
 use mathlib.Core.Bool.{Bool, true, false}
 use native.Mathlib.Omega.{arith}
@@ -35,7 +35,9 @@ runs_first p (q ∷ qs) = rw (runs_first q qs) (go (eqb p.kind q.kind) refl (sym
         → (q ∷ take m qs) ∷ runs (drop m qs) ≡ runs (q ∷ qs)
         → (if b then (p ∷ q ∷ take m qs) ∷ runs (drop m qs) else (p ∷ []) ∷ (q ∷ take m qs) ∷ runs (drop m qs))
         ≡ (p ∷ take (if b then suc (leading p.kind (map kind_of qs)) else 0) (q ∷ qs)) ∷ runs (drop (if b then suc (leading p.kind (map kind_of qs)) else 0) (q ∷ qs))
-    go true e later = let same : p.kind ≡ q.kind = eqb-true p.kind q.kind e in rw same
+    go true e later = let same : p.kind ≡ q.kind = eqb-true p.kind q.kind e in
+        let Of : ℕ → Type 0 = λ k. ((p ∷ q ∷ take m qs) ∷ runs (drop m qs)) ≡ ((p ∷ q ∷ take (leading k (map kind_of qs)) qs) ∷ runs (drop (leading k (map kind_of qs)) qs)) in
+        subst Of (sym same) refl
     go false e later = ap (λ (l : List (List Polygon)). (p ∷ []) ∷ l) later
 
 -- ---- what the entries say of the polygons

@@ -26,11 +26,11 @@ good_name-requires c = earlier_fit c.loop-i.invariant
 
 pub returns-then-not-good_name : goal.returns-then-not-good_name
 returns-then-not-good_name c =
-    fails c.loop-i.invariant c.loop-i-test.true c.wide.ensures.0 c.good_name.ensures (not-true _ c.if-not-good_name.true)
+    fails c.loop-i.invariant c.loop-i-test.true c.wide.ensures.0 c.good_name.ensures c.if-not-good_name.true
 
 pub loop-i-preserved : goal.loop-i-preserved
 loop-i-preserved c =
-    turn c.loop-i.invariant c.loop-i-test.true c.wide.ensures.0 c.good_name.ensures (not-false _ c.if-not-good_name.false)
+    turn c.loop-i.invariant c.loop-i-test.true c.wide.ensures.0 c.good_name.ensures c.if-not-good_name.false
 
 pub returns : goal.returns
 returns c = end c.loop-i.invariant c.loop-i-test.false

@@ -9,14 +9,14 @@ pub returns-then-left-lt8 : goal.returns-then-left-lt8
 returns-then-left-lt8 c = cut 4 (search rules)
 
 pub returns-then-not-tag_ok : goal.returns-then-not-tag_ok
-returns-then-not-tag_ok c = no_tag 4 (search rules) c.tag_ok.ensures (not-true _ c.if-not-tag_ok.true)
+returns-then-not-tag_ok c = no_tag 4 (search rules) c.tag_ok.ensures c.if-not-tag_ok.true
 
 pub framed-requires : goal.framed-requires
 framed-requires c =
     let a = c.args in
     record {
       there = search rules;
-      tag = sym c.tag_ok.ensures ∙ not-false _ c.if-not-tag_ok.false;
+      tag = sym c.tag_ok.ensures ∙ c.if-not-tag_ok.false;
       is = length_is 4 a.s.now a.c.at c.word.ensures;
       few = search rules;
     }

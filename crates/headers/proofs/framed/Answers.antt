@@ -8,7 +8,7 @@ pub returns-then-left-head : goal.returns-then-left-head
 returns-then-left-head c = too_long _ c.requires (search rules)
 
 pub returns-then-not-pad_ok : goal.returns-then-not-pad_ok
-returns-then-not-pad_ok c = no_pad _ c.requires (search rules) c.pad_ok.ensures (not-true _ c.if-not-pad_ok.true)
+returns-then-not-pad_ok c = no_pad _ c.requires (search rules) c.pad_ok.ensures c.if-not-pad_ok.true
 
 pub returns : goal.returns
-returns c = found _ c.requires (search rules) c.pad_ok.ensures c.word.ensures (not-false _ c.if-not-pad_ok.false)
+returns c = found _ c.requires (search rules) c.pad_ok.ensures c.word.ensures c.if-not-pad_ok.false

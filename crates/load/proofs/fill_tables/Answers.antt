@@ -1,15 +1,16 @@
 -- Room for all that the mesh needs is room for each walk, and what the walks put is what its tables hold (`AllTables`).
 use Rattle.load.proofs.AllTables.{points_room, lengths_room, bytes_room, polygons_room, records_room, all_put}
+use Rattle.load.proofs.fill_tables.Goals.{After-fill_names, After-fill_points, After-fill_polygons, Start}
 use Rattle.load.proofs.fill_tables.Goals as goal
 
 -- from what is known after a call back to what was known after the one before it
-abbrev start : goal.After-fill_points → goal.Start
+abbrev start : After-fill_points → Start
 start p = p
 
-abbrev points : goal.After-fill_polygons → goal.After-fill_points
+abbrev points : After-fill_polygons → After-fill_points
 points g = g
 
-abbrev polygons : goal.After-fill_names → goal.After-fill_polygons
+abbrev polygons : After-fill_names → After-fill_polygons
 polygons n = n
 
 pub fill_points-requires : goal.fill_points-requires

@@ -5,11 +5,11 @@ use Rattle.lwo2_values.proofs.blue.Goals as goal
 pub enveloped-requires : goal.enveloped-requires
 enveloped-requires c =
     let others = c.requires in
-    let blue = rw c.in-Got.is at c.Float-at.ensures in
+    let blue = rw c.in-Got.is at c.float_at.ensures in
     (others.0, others.1, blue.has_bits)
 
 pub returns-in-Stop : goal.returns-in-Stop
-returns-in-Stop c = float_bad _ (rw c.in-Stop.is at c.Float-at.ensures)
+returns-in-Stop c = float_bad _ (rw c.in-Stop.is at c.float_at.ensures)
 
 pub returns-in-Got : goal.returns-in-Got
-returns-in-Got c = float_then _ (rw c.in-Got.is at c.Float-at.ensures) c.enveloped.ensures
+returns-in-Got c = float_then _ (rw c.in-Got.is at c.float_at.ensures) c.enveloped.ensures

@@ -8,24 +8,25 @@ use Rattle.format.proofs.Facts.{all_bytes}
 use Rattle.validate.specs.declared.FileResult.{FileResult}
 use Rattle.validate.specs.Promises.{FileJudged}
 use Rattle.reader.proofs.ReadAnswers.{read_refused, tables_room, read_accepted, read_no_room}
+use Rattle.reader.proofs.read.Goals.{After-has_room, After-validate, In-Counts, Start}
 use Rattle.reader.proofs.read.Goals as goal
 
 -- from what is known after a call back to the match before it, to the start, and to the tables as they were lent
-abbrev matched : goal.After-has_room → goal.In-Counts-2
+abbrev matched : After-has_room → In-Counts
 matched u = u
 
-abbrev start : goal.In-Counts-2 → goal.Start
+abbrev start : In-Counts → Start
 start x = x
 
-abbrev given : goal.Start → Tables
+abbrev given : Start → Tables
 given a = lent a.args.points.now a.args.polygons.now a.args.vertices.now a.args.names.now a.args.name_bytes.now a.args.records.now
 
 -- the file is bytes
-bytes : (x : goal.After-validate) → all byte x.args.file.now ≡ true
+bytes : (x : After-validate) → all byte x.args.file.now ≡ true
 bytes x = all_bytes _ (λ i. omega (arith, x.shared_slice_known-1.given i))
 
 -- the file was judged fine
-counted : (x : goal.In-Counts-2) → FileJudged (start x).args.file.now (FileResult.Counts x.in-Counts.kind x.in-Counts.totals)
+counted : (x : In-Counts) → FileJudged (start x).args.file.now (FileResult.Counts x.in-Counts.kind x.in-Counts.totals)
 counted x = rw x.in-Counts.is at x.validate.ensures
 
 pub returns-in-Refused : goal.returns-in-Refused

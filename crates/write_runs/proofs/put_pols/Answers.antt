@@ -9,29 +9,30 @@ use Rattle.output.proofs.Parts.{PartsLeft, begin, in_two, room, turn, end}
 use Rattle.output.proofs.Chunks.{BodyFirst, first_room, close_room, closed}
 use Rattle.format.proofs.CanonicalLengths.{length_type}
 use Rattle.write_runs.proofs.Runs.{pols}
+use Rattle.write_runs.proofs.put_pols.Goals.{After-put_u4-first, Start}
 use Rattle.write_runs.proofs.put_pols.Goals as goal
 
-abbrev type : goal.Start → List ℕ
+abbrev type : Start → List ℕ
 type s = spelt (type_of (word 0 (entry_at polygon_size 0 s.args.run.now)))
 
-abbrev polygons : goal.Start → List ℕ
+abbrev polygons : Start → List ℕ
 polygons s = joined (map polygon_bytes (mesh_polygons s.args.run.now s.args.vertices.now))
 
-whole : (s : goal.Start) → BodyFirst (chunk_bytes 4 "POLS" (type s ++ polygons s)) (tag_number "POLS") (type s ++ polygons s) s.args.out.now s.args.at
+whole : (s : Start) → BodyFirst (chunk_bytes 4 "POLS" (type s ++ polygons s)) (tag_number "POLS") (type s ++ polygons s) s.args.out.now s.args.at
 whole s = pols s.args.run.now s.args.vertices.now s.requires.1
 
 -- the parts of the body that are left
-abbrev Body : goal.Start → List (List ℕ) → List ℕ → ℕ → Type 0
+abbrev Body : Start → List (List ℕ) → List ℕ → ℕ → Type 0
 Body s left out next = PartsLeft (type s ++ polygons s) left s.args.out.now (s.args.at + 8) out next
 
-opened : (s : goal.Start) → Body s (type s ∷ polygons s ∷ []) s.args.out.now (s.args.at + 8)
+opened : (s : Start) → Body s (type s ∷ polygons s ∷ []) s.args.out.now (s.args.at + 8)
 opened s = begin (in_two (type s) (polygons s)) (first_room (whole s))
 
 -- where the function began, seen from after a call
-abbrev start : goal.After-put_u4-first → goal.Start
+abbrev start : After-put_u4-first → Start
 start u = u
 
-typed : (u : goal.After-put_u4-first) → Body (start u) (polygons (start u) ∷ []) u.put_u4-first.new.0 u.put_u4-first.result
+typed : (u : After-put_u4-first) → Body (start u) (polygons (start u) ∷ []) u.put_u4-first.new.0 u.put_u4-first.result
 typed u = turn (opened (start u)) (rw (u.type_of.ensures, u.kind.ensures) at u.put_u4-first.ensures)
 
 pub put_u4-first-requires : goal.put_u4-first-requires

@@ -12,30 +12,31 @@ use Rattle.output.proofs.PutSoFar.{wrote_none}
 use Rattle.output.proofs.Parts.{PartsLeft, begin, in_two, room, turn, end}
 use Rattle.output.proofs.Chunks.{BodyFirst, first_room, close_room, closed}
 use Rattle.write_runs.proofs.Runs.{no_ptag, ptag, no_pairs, a_pair_there}
+use Rattle.write_runs.proofs.put_ptag.Goals.{After-put_u4-first, Else-no_pairs, Start}
 use Rattle.write_runs.proofs.put_ptag.Goals as goal
 
-abbrev numbers : goal.Start → List ℕ
+abbrev numbers : Start → List ℕ
 numbers s = column polygon_size s.args.index s.args.run.now
 
-abbrev type : goal.Start → List ℕ
+abbrev type : Start → List ℕ
 type s = bytes 4 s.args.tagging
 
-abbrev pairs : goal.Start → List ℕ
+abbrev pairs : Start → List ℕ
 pairs s = pairs_from 0 (numbers s)
 
 -- where the function began, seen from a test and from after a call
-abbrev start : goal.Else-no_pairs → goal.Start
+abbrev start : Else-no_pairs → Start
 start x = x
 
-abbrev at_type : goal.After-put_u4-first → goal.Else-no_pairs
+abbrev at_type : After-put_u4-first → Else-no_pairs
 at_type u = u
 
-whole : (x : goal.Else-no_pairs)
+whole : (x : Else-no_pairs)
     → BodyFirst (tagging_bytes (start x).args.tagging (pairs (start x))) (tag_number "PTAG") (type (start x) ++ pairs (start x)) (start x).args.out.now (start x).args.at
 whole x = ptag (start x).args.tagging (pairs (start x)) (a_pair_there 0 (numbers (start x)) (sym x.no_pairs.ensures ∙ x.if-no_pairs.false)) (start x).requires.2
 
 -- the type and the pairs are put into the body
-opened : (x : goal.Else-no_pairs)
+opened : (x : Else-no_pairs)
     → PartsLeft (type (start x) ++ pairs (start x)) (type (start x) ∷ pairs (start x) ∷ []) (start x).args.out.now ((start x).args.at + 8) (start x).args.out.now ((start x).args.at + 8)
 opened x = begin (in_two (type (start x)) (pairs (start x))) (first_room (whole x))
 

@@ -8,9 +8,10 @@ use Rattle.mesh.specs.Lent.{column, mesh_polygons}
 use Rattle.output.specs.Outputs.{chunks_bytes}
 use Rattle.output.proofs.Parts.{PartsLeft, begin, room, turn, end}
 use Rattle.write_runs.proofs.Runs.{pols_body, surface_tagging, part_tagging, run_chunks_are}
+use Rattle.write_runs.proofs.put_run.Goals.{Start}
 use Rattle.write_runs.proofs.put_run.Goals as goal
 
-started : (s : goal.Start)
+started : (s : Start)
     → let run = s.args.run.now in
     let vertices = s.args.vertices.now in
     PartsLeft (chunks_bytes (run_chunks (mesh_polygons run vertices))) (chunk_bytes 4 "POLS" (pols_body run vertices) ∷ surface_tagging (column polygon_size 2 run) ∷ part_tagging (column polygon_size 3 run) ∷ []) s.args.out.now s.args.at s.args.out.now s.args.at

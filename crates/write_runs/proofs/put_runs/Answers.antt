@@ -4,6 +4,7 @@ use native.Mathlib.Omega.{arith}
 use lib.ListN.{length}
 use Rattle.mesh.proofs.RunWalk.{later, run_few, room}
 use Rattle.write_runs.proofs.Runs.{begin, run_room, turn, end}
+use Rattle.write_runs.proofs.put_runs.Goals.{After-vertex_count}
 use Rattle.write_runs.proofs.put_runs.Goals as goal
 
 pub loop-entry-init : goal.loop-entry-init
@@ -15,7 +16,7 @@ vertex_count-requires c =
     omega (arith, run_few w c.loop-entry-test.true c.run_end-end.ensures, w.lent.few)
 
 -- the vertices of the run are there
-there : (n : goal.After-vertex_count)
+there : (n : After-vertex_count)
     → n.loop-entry.first + n.vertex_count.result ≤ length n.args.vertices.now
 there n =
     let e = n in

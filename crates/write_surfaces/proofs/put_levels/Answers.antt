@@ -9,17 +9,18 @@ use Rattle.write_surfaces.specs.Surfaces.{levels_bytes}
 use Rattle.output.proofs.Parts.{PartsLeft, begin, in_two, room, turn, end}
 use Rattle.output.proofs.Chunks.{Chunk, head_room, body_room, unpadded}
 use Rattle.write_surfaces.proofs.Surfaces.{levels_chunk}
+use Rattle.write_surfaces.proofs.put_levels.Goals.{After-put_sub_head-words, Start}
 use Rattle.write_surfaces.proofs.put_levels.Goals as goal
 
-abbrev levels : goal.Start → List ℕ
+abbrev levels : Start → List ℕ
 levels s = joined (map (bytes 4) s.args.levels.now)
 
-whole : (s : goal.Start)
+whole : (s : Start)
     → Chunk (levels_bytes s.args.tag s.args.levels.now) 2 s.args.tag (4 * length s.args.levels.now + 2) (levels s ++ vx_bytes 0) s.args.out.now s.args.at
 whole s = levels_chunk s.args.tag s.args.levels.now s.requires
 
 -- the levels and the envelope are left after the head
-headed : (h : goal.After-put_sub_head-words)
+headed : (h : After-put_sub_head-words)
     → PartsLeft (levels h ++ vx_bytes 0) (levels h ∷ vx_bytes 0 ∷ []) h.put_sub_head-words.new.0 h.put_sub_head-words.result h.put_sub_head-words.new.0 h.put_sub_head-words.result
 headed h = let s = h in begin (in_two (levels s) (vx_bytes 0)) (body_room (whole s) h.put_sub_head-words.ensures)
 

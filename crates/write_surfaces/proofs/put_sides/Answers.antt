@@ -4,9 +4,10 @@ use Rattle.format.specs.Bytes.{number, tag_number}
 use Rattle.format.specs.Canonical.{bytes, chunk_bytes}
 use Rattle.format.proofs.CanonicalLengths.{length_bytes}
 use Rattle.output.proofs.Chunks.{Chunk, head_room, body_room, unpadded, chunk_is}
+use Rattle.write_surfaces.proofs.put_sides.Goals.{Start}
 use Rattle.write_surfaces.proofs.put_sides.Goals as goal
 
-whole : (s : goal.Start)
+whole : (s : Start)
     → Chunk (chunk_bytes 2 "SIDE" (bytes 2 s.args.sides)) 2 (tag_number "SIDE") 2 (bytes 2 s.args.sides) s.args.out.now s.args.at
 unfolding bytes number
 whole s = record { is = rw (length_bytes 2 s.args.sides) at (chunk_is 2 (tag_number "SIDE") "SIDE" (bytes 2 s.args.sides) refl); fits = s.requires }

@@ -9,39 +9,40 @@ use Rattle.output.proofs.PutSoFar.{wrote_none}
 use Rattle.output.proofs.Parts.{PartsLeft, begin, room, turn, end}
 use Rattle.output.proofs.Chunks.{BodyFirst, first_room, close_room, closed}
 use Rattle.write_surfaces.proofs.Surfaces.{not_defined, surface_chunk_lem, surface_parts_lem, no_source}
+use Rattle.write_surfaces.proofs.put_surface.Goals.{After-put_string-source, After-put_u2-values, Else-words-ne1, Start}
 use Rattle.write_surfaces.proofs.put_surface.Goals as goal
 
-abbrev name : goal.Start → List ℕ
+abbrev name : Start → List ℕ
 name s = s.args.name.now
 
-abbrev surface : goal.Start → Surface
+abbrev surface : Start → Surface
 surface s = surface_from s.args.words.now
 
 -- where the function began, seen from the test and from after a call
-abbrev start : goal.Else-words-ne1 → goal.Start
+abbrev start : Else-words-ne1 → Start
 start x = x
 
-abbrev at_string : goal.After-put_string-source → goal.Else-words-ne1
+abbrev at_string : After-put_string-source → Else-words-ne1
 at_string u = u
 
-abbrev at_source : goal.After-put_u2-values → goal.Else-words-ne1
+abbrev at_source : After-put_u2-values → Else-words-ne1
 at_source v = at_string v
 
-whole : (x : goal.Else-words-ne1) → let s = start x in BodyFirst (surface_chunk (name s) (surface s)) (tag_number "SURF") (surface_bytes (name s) (surface s)) s.args.out.now s.args.at
+whole : (x : Else-words-ne1) → let s = start x in BodyFirst (surface_chunk (name s) (surface s)) (tag_number "SURF") (surface_bytes (name s) (surface s)) s.args.out.now s.args.at
 whole x = let s = start x in surface_chunk_lem (name s) (surface s) x.if-words-ne1.false s.pre.1
 
 -- the parts of the body that are left
-abbrev Body : goal.Else-words-ne1 → List (List ℕ) → List ℕ → ℕ → Type 0
+abbrev Body : Else-words-ne1 → List (List ℕ) → List ℕ → ℕ → Type 0
 Body x left out next = let s = start x in PartsLeft (surface_bytes (name s) (surface s)) left s.args.out.now (s.args.at + 8) out next
 
-opened : (x : goal.Else-words-ne1) → let s = start x in Body x (string_bytes (name s) ∷ string_bytes [] ∷ value_bytes (surface s) ∷ []) s.args.out.now (s.args.at + 8)
+opened : (x : Else-words-ne1) → let s = start x in Body x (string_bytes (name s) ∷ string_bytes [] ∷ value_bytes (surface s) ∷ []) s.args.out.now (s.args.at + 8)
 opened x = let s = start x in begin (surface_parts_lem (name s) (surface s)) (first_room (whole x))
 
-named : (u : goal.After-put_string-source)
+named : (u : After-put_string-source)
     → Body (at_string u) (string_bytes [] ∷ value_bytes (surface (start (at_string u))) ∷ []) u.put_string-source.new.0 u.put_string-source.result
 named u = turn (opened (at_string u)) u.put_string-source.ensures
 
-sourced : (v : goal.After-put_u2-values) → Body (at_source v) (value_bytes (surface (start (at_source v))) ∷ []) v.put_u2-values.new.0 v.put_u2-values.result
+sourced : (v : After-put_u2-values) → Body (at_source v) (value_bytes (surface (start (at_source v))) ∷ []) v.put_u2-values.new.0 v.put_u2-values.result
 sourced v = turn (named v) (rw no_source at v.put_u2-values.ensures)
 
 pub returns-then-words-ne1 : goal.returns-then-words-ne1

@@ -11,53 +11,54 @@ use Rattle.format.proofs.CanonicalLengths.{length_bytes}
 use Rattle.mesh.proofs.MeshFacts.{MeshFacts, mesh_facts}
 use Rattle.output.proofs.Parts.{PartsLeft, begin, room, turn, end}
 use Rattle.writer.proofs.FileParts.{file_parts, small_vertices, head_long, file_is}
+use Rattle.writer.proofs.put_file.Goals.{After-put_head-kind, After-put_names_chunk-coordinates, After-put_points_chunk-runs, After-put_runs-surfaces, After-put_u4-tags, Start}
 use Rattle.writer.proofs.put_file.Goals as goal
 
-abbrev tables : goal.Start → Tables
+abbrev tables : Start → Tables
 tables s = lent s.args.points.now s.args.polygons.now s.args.vertices.now s.args.names.now s.args.name_bytes.now s.args.records.now
 
 -- where the function began, seen from after each call
-abbrev at_head : goal.After-put_head-kind → goal.Start
+abbrev at_head : After-put_head-kind → Start
 at_head u = u
 
-abbrev at_type : goal.After-put_u4-tags → goal.Start
+abbrev at_type : After-put_u4-tags → Start
 at_type u = at_head u
 
-abbrev at_tags : goal.After-put_names_chunk-coordinates → goal.Start
+abbrev at_tags : After-put_names_chunk-coordinates → Start
 at_tags u = at_type u
 
-abbrev at_points : goal.After-put_points_chunk-runs → goal.Start
+abbrev at_points : After-put_points_chunk-runs → Start
 at_points u = at_tags u
 
-abbrev at_runs : goal.After-put_runs-surfaces → goal.Start
+abbrev at_runs : After-put_runs-surfaces → Start
 at_runs u = at_points u
 
 -- after so many of the parts
-abbrev After : goal.Start → (k : ℕ) → List ℕ → ℕ → Type 0
+abbrev After : Start → (k : ℕ) → List ℕ → ℕ → Type 0
 After s k out next = PartsLeft (canonical (mesh_from (tables s))) (drop k (file_parts (tables s) s.args.n)) s.args.out.now 0 out next
 
-facts_of : (s : goal.Start)
+facts_of : (s : Start)
     → MeshFacts s.args.points.now s.args.polygons.now s.args.vertices.now s.args.names.now s.args.name_bytes.now s.args.records.now
 facts_of s = mesh_facts _ _ _ _ _ _ s.requires.mesh
 
-started : (s : goal.Start) → After s 0 s.args.out.now 0
+started : (s : Start) → After s 0 s.args.out.now 0
 started s = begin (file_is (tables s) s.requires.mesh s.requires.long) (omega (arith, s.requires.long, s.requires.room))
 
-headed : (u : goal.After-put_head-kind) → After (at_head u) 1 u.put_head-kind.new.0 u.put_head-kind.result
+headed : (u : After-put_head-kind) → After (at_head u) 1 u.put_head-kind.new.0 u.put_head-kind.result
 unfolding number
 headed u = turn (started (at_head u)) u.put_head-kind.ensures
 
-typed : (u : goal.After-put_u4-tags) → After (at_type u) 2 u.put_u4-tags.new.0 u.put_u4-tags.result
+typed : (u : After-put_u4-tags) → After (at_type u) 2 u.put_u4-tags.new.0 u.put_u4-tags.result
 unfolding number
 typed u = turn (headed u) u.put_u4-tags.ensures
 
-tagged : (u : goal.After-put_names_chunk-coordinates) → After (at_tags u) 3 u.put_names_chunk-coordinates.new.0 u.put_names_chunk-coordinates.result
+tagged : (u : After-put_names_chunk-coordinates) → After (at_tags u) 3 u.put_names_chunk-coordinates.new.0 u.put_names_chunk-coordinates.result
 tagged u = turn (typed u) u.put_names_chunk-coordinates.ensures
 
-pointed : (u : goal.After-put_points_chunk-runs) → After (at_points u) 4 u.put_points_chunk-runs.new.0 u.put_points_chunk-runs.result
+pointed : (u : After-put_points_chunk-runs) → After (at_points u) 4 u.put_points_chunk-runs.new.0 u.put_points_chunk-runs.result
 pointed u = turn (tagged u) u.put_points_chunk-runs.ensures
 
-ran : (u : goal.After-put_runs-surfaces) → After (at_runs u) 5 u.put_runs-surfaces.new.0 u.put_runs-surfaces.result
+ran : (u : After-put_runs-surfaces) → After (at_runs u) 5 u.put_runs-surfaces.new.0 u.put_runs-surfaces.result
 ran u = turn (pointed u) u.put_runs-surfaces.ensures
 
 pub overflow_sub-n : goal.overflow_sub-n

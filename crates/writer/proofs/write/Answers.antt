@@ -1,9 +1,10 @@
 -- Where the answer is not 0 nothing is put, and where it is 0 the file fits.
 use Rattle.format.specs.Mesh.{Tables, lent}
 use Rattle.writer.proofs.Outputs.{refused, accepted, written_out}
+use Rattle.writer.proofs.write.Goals.{Start}
 use Rattle.writer.proofs.write.Goals as goal
 
-abbrev tables : goal.Start → Tables
+abbrev tables : Start → Tables
 tables s = lent s.args.points.now s.args.polygons.now s.args.vertices.now s.args.names.now s.args.name_bytes.now s.args.records.now
 
 pub returns-then-answer-ne0 : goal.returns-then-answer-ne0

@@ -11,11 +11,11 @@ loop-i-init c = begin
 
 pub returns-then-not-is_finite : goal.returns-then-not-is_finite
 returns-then-not-is_finite c =
-    fails c.loop-i.invariant (at_index _ _ c.loop-i-test.true) (sym c.is_finite.ensures ∙ not-true _ c.if-not-is_finite.true)
+    fails c.loop-i.invariant (at_index _ _ c.loop-i-test.true) (sym c.is_finite.ensures ∙ c.if-not-is_finite.true)
 
 pub loop-i-preserved : goal.loop-i-preserved
 loop-i-preserved c =
-    turn c.loop-i.invariant (at_index _ _ c.loop-i-test.true) (sym c.is_finite.ensures ∙ not-false _ c.if-not-is_finite.false)
+    turn c.loop-i.invariant (at_index _ _ c.loop-i-test.true) (sym c.is_finite.ensures ∙ c.if-not-is_finite.false)
 
 pub returns : goal.returns
 returns c = end c.loop-i.invariant (past_end _ _ c.loop-i-test.false)

@@ -5,4 +5,4 @@ use Rattle.good_entries.proofs.polygons.good_entry.Goals as goal
 
 pub returns : goal.returns
 unfolding every
-returns c = rw (c.good_tag_lem.ensures, c.good_tag-2.ensures) (simp (and_assoc, and-true))
+returns c = rw (c.good_tag.ensures, c.good_tag-2.ensures) (simp (and_assoc, and-true))

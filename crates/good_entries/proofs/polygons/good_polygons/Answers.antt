@@ -10,26 +10,27 @@ use Rattle.mesh.proofs.AllPass as all_pass
 use Rattle.mesh.proofs.AllPass.{passed, failed}
 use Rattle.mesh.proofs.PolygonWalk.{begin, counted, ordered, here, turn, end}
 use Rattle.good_entries.proofs.GoodPolygons.{good_words, not_below, by_words, judged}
+use Rattle.good_entries.proofs.polygons.good_polygons.Goals.{Else-not-all_below, Start}
 use Rattle.good_entries.proofs.polygons.good_polygons.Goals as goal
 
 pub returns-then-not-all_below : goal.returns-then-not-all_below
 returns-then-not-all_below c =
-    not_below c.args.points c.args.names c.args.polygons.now c.args.vertices.now c.requires c.all_below.ensures (not-true _ c.if-not-all_below.true)
+    not_below c.args.points c.args.names c.args.polygons.now c.args.vertices.now c.requires c.all_below.ensures c.if-not-all_below.true
 
 pub loop-at-init : goal.loop-at-init
 loop-at-init c = begin c.requires all_pass.begin
 
-abbrev start : goal.Else-not-all_below → goal.Start
+abbrev start : Else-not-all_below → Start
 start x = x
 
 -- the entries decide
-decided : (x : goal.Else-not-all_below)
+decided : (x : Else-not-all_below)
     → let s = start x in
     let ps = mesh_polygons s.args.polygons.now s.args.vertices.now in
     all (good_words s.args.names) ps ≡ all (good_polygon s.args.points s.args.names) ps
 decided x =
     let s = start x in
-    by_words s.args.points s.args.names s.args.polygons.now s.args.vertices.now s.pre x.all_below.ensures (not-false _ x.if-not-all_below.false)
+    by_words s.args.points s.args.names s.args.polygons.now s.args.vertices.now s.pre x.all_below.ensures x.if-not-all_below.false
 
 pub polygon_at-p-requires : goal.polygon_at-p-requires
 polygon_at-p-requires c = (omega arith, omega (arith, counted c.loop-at.invariant c.loop-at-test.true))

@@ -12,11 +12,11 @@ good_record-requires c = long c.loop-at.invariant c.loop-at-test.true
 
 pub returns-then-not-good_record : goal.returns-then-not-good_record
 returns-then-not-good_record c =
-    fails c.loop-at.invariant c.loop-at-test.true c.good_record.ensures (not-true _ c.if-not-good_record.true)
+    fails c.loop-at.invariant c.loop-at-test.true c.good_record.ensures c.if-not-good_record.true
 
 pub loop-at-preserved : goal.loop-at-preserved
 loop-at-preserved c =
-    turn c.loop-at.invariant c.loop-at-test.true c.good_record.ensures (not-false _ c.if-not-good_record.false)
+    turn c.loop-at.invariant c.loop-at-test.true c.good_record.ensures c.if-not-good_record.false
 
 pub returns : goal.returns
 returns c = end c.loop-at.invariant c.loop-at-test.false

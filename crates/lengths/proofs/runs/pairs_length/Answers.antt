@@ -1,20 +1,12 @@
 -- A walk over one word of a run's polygons: the length of each pair is added to those before it.
-use Prim.Native.Nat.{ℕ, ◌-◌, ◌*◌, ◌≤◌}
+use Prim.Native.Nat.{◌-◌}
 use mathlib.Core.Path.{refl}
-use mathlib.Core.List.{List}
 use native.Mathlib.Omega.{arith}
-use lib.ListN.{length}
 use Rattle.mesh.proofs.ColumnWalk.{begin, here, turn, end}
 use Rattle.mesh.specs.Polygons.{pairs_from}
 use Rattle.lengths.proofs.SizeSum as sizes
-use Rattle.lengths.proofs.SizeSum.{SizeSum}
 use Rattle.mesh.proofs.Pairs.{pairs_more}
 use Rattle.lengths.proofs.runs.pairs_length.Goals as goal
-
--- `counted` keeps the number of a polygon from wrapping
-record PairsLeft (numbers : List ℕ) (bytes i at : ℕ) (ns : List ℕ) : Type 0 where
-  counted : i ≤ at
-  adds : SizeSum (length (pairs_from 0 numbers)) bytes (length (pairs_from i ns)) (2 * at)
 
 pub loop-at-init : goal.loop-at-init
 loop-at-init c = begin (record { counted = omega arith; adds = sizes.begin })

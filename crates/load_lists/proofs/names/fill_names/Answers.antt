@@ -10,25 +10,26 @@ use Rattle.headers.specs.Promises.{HeaderAt}
 use Rattle.format.specs.Promises.{names_tag}
 use Rattle.headers.proofs.FileWalk.{ChunkHere, never_bad, chunk_here}
 use Rattle.load_lists.proofs.NamesWalk.{none_at_start, unlisted, other, names_room, found}
+use Rattle.load_lists.proofs.names.fill_names.Goals.{In-Got, Then-holds_names}
 use Rattle.load_lists.proofs.names.fill_names.Goals as goal
 
 -- the chunk of this turn
-abbrev file : goal.In-Got-2 → List ℕ
+abbrev file : In-Got → List ℕ
 file x = x.args.file.now
 
-abbrev place : goal.In-Got-2 → ℕ
+abbrev place : In-Got → ℕ
 place x = x.loop-at.at
 
-header : (x : goal.In-Got-2)
+header : (x : In-Got)
     → HeaderAt 4 (file x) (place x) (Header.Got x.in-Got.tag x.in-Got.end x.in-Got.next)
 header x = rw x.in-Got.is at x.chunk_at.ensures
 
-this : (x : goal.In-Got-2)
+this : (x : In-Got)
     → ChunkHere x.loop-at.invariant.walked x.in-Got.tag (take (x.in-Got.end - place x) (drop (place x) (file x))) x.in-Got.next.at
 this x = chunk_here x.loop-at.invariant.walked (header x)
 
 -- it holds the names
-names_here : (t : goal.Then-holds_names)
+names_here : (t : Then-holds_names)
     → names_tag t.args.kind t.in-Got.tag ≡ true
 names_here t = sym t.holds_names.ensures ∙ t.if-holds_names.true
 
@@ -41,7 +42,7 @@ returns-in_default c =
 
 pub put_names-requires : goal.put_names-requires
 put_names-requires c =
-    names_room c.loop-at.invariant (this (goal.at.put_names-requires c).In-Got-2) (names_here (goal.at.put_names-requires c).Then-holds_names)
+    names_room c.loop-at.invariant (this (goal.at.put_names-requires c).In-Got) (names_here (goal.at.put_names-requires c).Then-holds_names)
 
 pub shape_of-lengths-then-holds_names : goal.shape_of-lengths-then-holds_names
 shape_of-lengths-then-holds_names c =
@@ -53,15 +54,15 @@ shape_of-bytes-then-holds_names c =
 
 pub returns-then-holds_names : goal.returns-then-holds_names
 returns-then-holds_names c =
-    found c.loop-at.invariant (this (goal.at.returns-then-holds_names c).In-Got-2) (names_here (goal.at.returns-then-holds_names c).Then-holds_names) c.put_names.ensures
+    found c.loop-at.invariant (this (goal.at.returns-then-holds_names c).In-Got) (names_here (goal.at.returns-then-holds_names c).Then-holds_names) c.put_names.ensures
 
 pub loop-at-smaller : goal.loop-at-smaller
 loop-at-smaller c =
-    omega (arith, (header (goal.at.loop-at-smaller c).In-Got-2).inside, c.loop-at-test.true)
+    omega (arith, (header (goal.at.loop-at-smaller c).In-Got).inside, c.loop-at-test.true)
 
 pub loop-at-preserved : goal.loop-at-preserved
 loop-at-preserved c =
-    other c.loop-at.invariant (this (goal.at.loop-at-preserved c).In-Got-2) (sym c.holds_names.ensures ∙ c.if-holds_names.false)
+    other c.loop-at.invariant (this (goal.at.loop-at-preserved c).In-Got) (sym c.holds_names.ensures ∙ c.if-holds_names.false)
 
 pub returns : goal.returns
 returns c = unlisted c.loop-at.invariant c.loop-at-test.false

@@ -5,16 +5,17 @@ use native.Mathlib.Omega.{arith}
 use Rattle.headers.specs.declared.Header.{Header}
 use Rattle.headers.specs.Promises.{HeaderAt}
 use Rattle.load_lists.proofs.PointsWalk.{begin, end, never_bad, chunk_room, turn}
+use Rattle.load_lists.proofs.points.fill_points.Goals.{In-Got}
 use Rattle.load_lists.proofs.points.fill_points.Goals as goal
 
 -- the chunk of this turn
-abbrev file : goal.In-Got-2 → List ℕ
+abbrev file : In-Got → List ℕ
 file x = x.args.file.now
 
-abbrev place : goal.In-Got-2 → ℕ
+abbrev place : In-Got → ℕ
 place x = x.loop-at.at
 
-header : (x : goal.In-Got-2)
+header : (x : In-Got)
     → HeaderAt 4 (file x) (place x) (Header.Got x.in-Got.tag x.in-Got.end x.in-Got.next)
 header x = rw x.in-Got.is at x.chunk_at.ensures
 
@@ -27,15 +28,15 @@ returns-in_default c =
 
 pub put_chunk-m-requires : goal.put_chunk-m-requires
 put_chunk-m-requires c =
-    chunk_room c.loop-at.invariant c.loop-at-test.true (header (goal.at.put_chunk-m-requires c).In-Got-2)
+    chunk_room c.loop-at.invariant c.loop-at-test.true (header (goal.at.put_chunk-m-requires c).In-Got)
 
 pub loop-at-smaller : goal.loop-at-smaller
 loop-at-smaller c =
-    omega (arith, (header (goal.at.loop-at-smaller c).In-Got-2).inside, c.loop-at-test.true)
+    omega (arith, (header (goal.at.loop-at-smaller c).In-Got).inside, c.loop-at-test.true)
 
 pub loop-at-preserved : goal.loop-at-preserved
 loop-at-preserved c =
-    turn c.loop-at.invariant c.loop-at-test.true (header (goal.at.loop-at-preserved c).In-Got-2) c.put_chunk-m.ensures
+    turn c.loop-at.invariant c.loop-at-test.true (header (goal.at.loop-at-preserved c).In-Got) c.put_chunk-m.ensures
 
 pub returns : goal.returns
 returns c = end c.loop-at.invariant c.loop-at-test.false

@@ -6,16 +6,17 @@ use Rattle.headers.specs.declared.Header.{Header}
 use Rattle.headers.specs.Promises.{HeaderAt}
 use Rattle.load_polygon_chunks.proofs.PolygonsWalk.{begin, end, part_room, turn}
 use Rattle.headers.proofs.FileWalk.{never_bad}
+use Rattle.load_polygon_chunks.proofs.polygons.fill_polygons.Goals.{In-Got}
 use Rattle.load_polygon_chunks.proofs.polygons.fill_polygons.Goals as goal
 
 -- the chunk of this turn
-abbrev file : goal.In-Got-2 → List ℕ
+abbrev file : In-Got → List ℕ
 file x = x.args.file.now
 
-abbrev place : goal.In-Got-2 → ℕ
+abbrev place : In-Got → ℕ
 place x = x.loop-at.at
 
-header : (x : goal.In-Got-2)
+header : (x : In-Got)
     → HeaderAt 4 (file x) (place x) (Header.Got x.in-Got.tag x.in-Got.end x.in-Got.next)
 header x = rw x.in-Got.is at x.chunk_at.ensures
 
@@ -28,15 +29,15 @@ returns-in_default c =
 
 pub put_chunk-latest-requires : goal.put_chunk-latest-requires
 put_chunk-latest-requires c =
-    part_room c.loop-at.invariant (header (goal.at.put_chunk-latest-requires c).In-Got-2)
+    part_room c.loop-at.invariant (header (goal.at.put_chunk-latest-requires c).In-Got)
 
 pub loop-at-smaller : goal.loop-at-smaller
 loop-at-smaller c =
-    omega (arith, (header (goal.at.loop-at-smaller c).In-Got-2).inside, c.loop-at-test.true)
+    omega (arith, (header (goal.at.loop-at-smaller c).In-Got).inside, c.loop-at-test.true)
 
 pub loop-at-preserved : goal.loop-at-preserved
 loop-at-preserved c =
-    turn c.loop-at.invariant (header (goal.at.loop-at-preserved c).In-Got-2) c.put_chunk-latest.ensures
+    turn c.loop-at.invariant (header (goal.at.loop-at-preserved c).In-Got) c.put_chunk-latest.ensures
 
 pub returns : goal.returns
 returns c = end c.loop-at.invariant c.loop-at-test.false

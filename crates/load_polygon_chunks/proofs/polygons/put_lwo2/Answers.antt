@@ -9,13 +9,13 @@ use Rattle.load_polygon_chunks.proofs.polygons.put_lwo2.Goals as goal
 pub put_polygons-ends-requires : goal.put_polygons-ends-requires
 unfolding number
 put_polygons-ends-requires c =
-    rw (c.Lists-of.ensures, c.ends_of.ensures)
+    rw (c.lists_of.ensures, c.ends_of.ensures)
     (polygons_room (λ points names. polygons_body points) (holds_polygons (eq-eqb _ _ c.if-tag-eq-POLS.true)) c.requires)
 
 pub returns-then-tag-eq-POLS : goal.returns-then-tag-eq-POLS
 unfolding number
 returns-then-tag-eq-POLS c =
-    polygons_put (λ points names. polygons_body points) (holds_polygons (eq-eqb _ _ c.if-tag-eq-POLS.true)) (rw (c.Lists-of.ensures, c.ends_of.ensures) at c.put_polygons-ends.ensures) c.with_polygons.ensures
+    polygons_put (λ points names. polygons_body points) (holds_polygons (eq-eqb _ _ c.if-tag-eq-POLS.true)) (rw (c.lists_of.ensures, c.ends_of.ensures) at c.put_polygons-ends.ensures) c.with_polygons.ensures
 
 pub put_taggings-requires : goal.put_taggings-requires
 unfolding number

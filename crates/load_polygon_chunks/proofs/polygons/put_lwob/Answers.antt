@@ -9,13 +9,13 @@ use Rattle.load_polygon_chunks.proofs.polygons.put_lwob.Goals as goal
 pub put_faces-ends-requires : goal.put_faces-ends-requires
 unfolding number
 put_faces-ends-requires c =
-    rw (c.Lists-of.ensures, c.ends_of.ensures)
+    rw (c.lists_of.ensures, c.ends_of.ensures)
     (polygons_room faces_body (holds_faces (eq-eqb _ _ c.if-tag-eq-POLS.true)) c.requires)
 
 pub returns-then-tag-eq-POLS : goal.returns-then-tag-eq-POLS
 unfolding number
 returns-then-tag-eq-POLS c =
-    polygons_put faces_body (holds_faces (eq-eqb _ _ c.if-tag-eq-POLS.true)) (rw (c.Lists-of.ensures, c.ends_of.ensures) at c.put_faces-ends.ensures) c.with_polygons.ensures
+    polygons_put faces_body (holds_faces (eq-eqb _ _ c.if-tag-eq-POLS.true)) (rw (c.lists_of.ensures, c.ends_of.ensures) at c.put_faces-ends.ensures) c.with_polygons.ensures
 
 pub put_patches-ends-requires : goal.put_patches-ends-requires
 unfolding number

@@ -8,6 +8,7 @@ use lib.ListN.{length, set, length-set}
 use Rattle.format.specs.Mesh.{record_size}
 use Rattle.format.specs.Promises.{Put}
 use Rattle.format.proofs.Puts.{put_none, put_length, put_snoc, put_append}
+use Rattle.load_records.proofs.table.store.Goals.{After-put_levels, After-slice_known-3-1, Start}
 use Rattle.load_records.proofs.table.store.Goals as goal
 
 module _ (t : List ℕ) (at w : ℕ) (room : at + record_size ≤ length t) {t₁ : List ℕ} {a b c d : ℕ} (p : Put (set t at w) (at + 1) (a ∷ b ∷ c ∷ d ∷ []) t₁) where
@@ -41,16 +42,16 @@ put_levels-requires-2 c =
     (omega (arith, long, c.requires.record_size_in_bounds), (h.luminosity, h.specular, h.reflection, h.transparency))
 
 -- after the levels
-abbrev first : goal.After-slice_known-3-1 → goal.After-put_levels
+abbrev first : After-slice_known-3-1 → After-put_levels
 first x = x
 
-abbrev start : goal.After-slice_known-3-1 → goal.Start
+abbrev start : After-slice_known-3-1 → Start
 start x = (first x).before.before.before
 
-abbrev table : goal.After-slice_known-3-1 → List ℕ
+abbrev table : After-slice_known-3-1 → List ℕ
 table x = (start x).args.table.now
 
-long : (x : goal.After-slice_known-3-1) → length x.put_levels-2.new.0 ≡ length (table x)
+long : (x : After-slice_known-3-1) → length x.put_levels-2.new.0 ≡ length (table x)
 long x =
     let at = (start x).args.i * record_size in
     nine_length (table x) at (start x).args.r.defined (start x).requires.0 (first x).put-levels.ensures x.put_levels-2.ensures

@@ -5,10 +5,11 @@ use Rattle.format.specs.Bytes.{number}
 use Rattle.wire.specs.declared.cursor.Text.{Text}
 use Rattle.wire.specs.Promises.{TextAt}
 use Rattle.load_surface_chunks.proofs.SurfaceChunk.{put_nothing, sound_body, never_open, put_surface, name_inside}
+use Rattle.load_surface_chunks.proofs.chunks.put_chunk.Goals.{In-Got}
 use Rattle.load_surface_chunks.proofs.chunks.put_chunk.Goals as goal
 
 -- the name of a SURF
-text : (x : goal.In-Got-2) → TextAt x.args.s.now 8 (Text.Got x.in-Got.n x.in-Got.field-1)
+text : (x : In-Got) → TextAt x.args.s.now 8 (Text.Got x.in-Got.n x.in-Got.field-1)
 text x = rw x.in-Got.is at x.string.ensures
 
 pub returns-then-tag-ne-SURF : goal.returns-then-tag-ne-SURF
@@ -26,13 +27,13 @@ record_of-r-requires c = sound_body (eq-eqb _ _ c.if-tag-ne-SURF.false) c.requir
 
 pub overflow_add-n : goal.overflow_add-n
 overflow_add-n c =
-    let w = name_inside (text (goal.at.overflow_add-n c).In-Got-2) in
+    let w = name_inside (text (goal.at.overflow_add-n c).In-Got) in
     search (rules, w)
 
 pub slice_bounds-put_record-end : goal.slice_bounds-put_record-end
-slice_bounds-put_record-end c = name_inside (text (goal.at.slice_bounds-put_record-end c).In-Got-2)
+slice_bounds-put_record-end c = name_inside (text (goal.at.slice_bounds-put_record-end c).In-Got)
 
 pub returns : goal.returns
 unfolding number
 returns c =
-    put_surface (eq-eqb _ _ c.if-tag-ne-SURF.false) (text (goal.at.returns c).In-Got-2) c.record_of-r.ensures c.put_record.ensures
+    put_surface (eq-eqb _ _ c.if-tag-ne-SURF.false) (text (goal.at.returns c).In-Got) c.record_of-r.ensures c.put_record.ensures

@@ -8,32 +8,33 @@ use lib.Seq.{length-take-le}
 use Rattle.headers.specs.declared.Header.{Header}
 use Rattle.headers.specs.Promises.{HeaderAt}
 use Rattle.load_values.proofs.LastValues.{begin, turn, never_bad, never_stop, end}
+use Rattle.load_values.proofs.last_values.last_values.Goals.{At-loop-at, In-Got}
 use Rattle.load_values.proofs.last_values.last_values.Goals as goal
 
 pub loop-at-init : goal.loop-at-init
 loop-at-init c = begin c.requires c.none-last.ensures
 
 -- ---- the header of a sub-chunk, and its value
-abbrev loop : goal.In-Got-2 → goal.At-loop-at
+abbrev loop : In-Got → At-loop-at
 loop x = x
 
-abbrev slice : goal.In-Got-2 → List ℕ
+abbrev slice : In-Got → List ℕ
 slice x = (loop x).before.before.before.args.s.now
 
-abbrev place : goal.In-Got-2 → ℕ
+abbrev place : In-Got → ℕ
 place x = (loop x).loop.at
 
-abbrev size : goal.In-Got-2 → ℕ
+abbrev size : In-Got → ℕ
 size x = x.in-Got.end
 
-header : (x : goal.In-Got-2) → HeaderAt 2 (slice x) (place x) (Header.Got x.in-Got.tag (size x) x.in-Got.next)
+header : (x : In-Got) → HeaderAt 2 (slice x) (place x) (Header.Got x.in-Got.tag (size x) x.in-Got.next)
 header x = rw x.in-Got.is at x.sub_at.ensures
 
 -- the sub-chunk ends inside the slice
-long : (x : goal.In-Got-2) → length (take (size x) (slice x)) ≡ size x
+long : (x : In-Got) → length (take (size x) (slice x)) ≡ size x
 long x = length-take-le (size x) (slice x) (omega (arith, (header x).inside))
 
-some : (x : goal.In-Got-2) → place x < length (slice x)
+some : (x : In-Got) → place x < length (slice x)
 some x = x.loop-at-test.true
 
 pub returns-in_default : goal.returns-in_default
@@ -41,26 +42,26 @@ returns-in_default c =
     absurd (never_bad c.loop-at.invariant c.loop-at-test.true (rw c.in_default.is at c.sub_at.ensures))
 
 pub slice_bounds-value_of-end : goal.slice_bounds-value_of-end
-slice_bounds-value_of-end c = sym (long (goal.at.slice_bounds-value_of-end c).In-Got-2)
+slice_bounds-value_of-end c = sym (long (goal.at.slice_bounds-value_of-end c).In-Got)
 
 pub value_of-requires : goal.value_of-requires
-value_of-requires c = rw (long (goal.at.value_of-requires c).In-Got-2) (omega (arith, (header (goal.at.value_of-requires c).In-Got-2).inside))
+value_of-requires c = rw (long (goal.at.value_of-requires c).In-Got) (omega (arith, (header (goal.at.value_of-requires c).In-Got).inside))
 
 pub returns-in_default-value_of : goal.returns-in_default-value_of
 returns-in_default-value_of c =
-    absurd (never_stop (loop (goal.at.returns-in_default-value_of c).In-Got-2).loop.invariant (some (goal.at.returns-in_default-value_of c).In-Got-2) (header (goal.at.returns-in_default-value_of c).In-Got-2) (rw c.in_default-value_of.is at c.value_of_lem.ensures))
+    absurd (never_stop (loop (goal.at.returns-in_default-value_of c).In-Got).loop.invariant (some (goal.at.returns-in_default-value_of c).In-Got) (header (goal.at.returns-in_default-value_of c).In-Got) (rw c.in_default-value_of.is at c.value_of_lem.ensures))
 
 pub with-last-requires : goal.with-last-requires
 with-last-requires c =
-    ((loop (goal.at.with-last-requires c).In-Got-2).loop.invariant.has_bits, (rw c.in-Got-value_of.is at c.value_of_lem.ensures).has_bits)
+    ((loop (goal.at.with-last-requires c).In-Got).loop.invariant.has_bits, (rw c.in-Got-value_of.is at c.value_of_lem.ensures).has_bits)
 
 pub loop-at-smaller : goal.loop-at-smaller
 loop-at-smaller c =
-    omega (arith, (header (goal.at.loop-at-smaller c).In-Got-2).inside, some (goal.at.loop-at-smaller c).In-Got-2)
+    omega (arith, (header (goal.at.loop-at-smaller c).In-Got).inside, some (goal.at.loop-at-smaller c).In-Got)
 
 pub loop-at-preserved : goal.loop-at-preserved
 loop-at-preserved c =
-    turn (loop (goal.at.loop-at-preserved c).In-Got-2).loop.invariant (some (goal.at.loop-at-preserved c).In-Got-2) (header (goal.at.loop-at-preserved c).In-Got-2) (rw c.in-Got-value_of.is at c.value_of_lem.ensures) c.with-last.ensures
+    turn (loop (goal.at.loop-at-preserved c).In-Got).loop.invariant (some (goal.at.loop-at-preserved c).In-Got) (header (goal.at.loop-at-preserved c).In-Got) (rw c.in-Got-value_of.is at c.value_of_lem.ensures) c.with-last.ensures
 
 pub returns : goal.returns
 returns c = end c.loop-at.invariant c.loop-at-test.false

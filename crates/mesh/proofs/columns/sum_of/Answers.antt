@@ -1,16 +1,10 @@
 -- A walk over one word of each entry: what was added so far and the sum of those that are left make the sum.
-use Prim.Native.Nat.{ℕ, ◌+◌, ◌-◌, ◌*◌, ◌≤◌, ◌^◌}
-use mathlib.Core.Path.{◌≡◌, ◌∙◌}
-use mathlib.Core.List.{List}
+use Prim.Native.Nat.{◌-◌}
+use mathlib.Core.Path.{◌∙◌}
 use native.Mathlib.Omega.{arith}
 use Rattle.format.specs.Bytes.{sum}
 use Rattle.mesh.proofs.ColumnWalk.{begin, here, turn, end}
 use Rattle.mesh.proofs.columns.sum_of.Goals as goal
-
--- `few` keeps the total from wrapping
-record SumLeft (goal total at : ℕ) (xs : List ℕ) : Type 0 where
-  few : total ≤ at * 2 ^ 32
-  so : goal ≡ total + sum xs
 
 pub loop-at-init : goal.loop-at-init
 loop-at-init c = begin (record { few = omega arith; so = omega arith })

@@ -1,10 +1,17 @@
 -- A walk over one word of each entry: what was added so far and the sum of those that are left make the sum.
-use Prim.Native.Nat.{◌-◌}
+use Prim.Native.Nat.{ℕ, ◌+◌, ◌-◌, ◌*◌, ◌≤◌, ◌^◌}
+use mathlib.Core.Path.{◌≡◌}
+use mathlib.Core.List.{List}
 use lib.ListN.{length}
 use Rattle.format.specs.Bytes.{sum}
 use Rattle.mesh.specs.Lent.{column}
 use Rattle.mesh.proofs.ColumnWalk.{ColumnWalk}
 use Rattle.mesh.proofs.columns.sum_of.Given as goal
+
+-- `few` keeps the total from wrapping
+pub record SumLeft (goal total at : ℕ) (xs : List ℕ) : Type 0 where
+  pub few : total ≤ at * 2 ^ 32
+  pub so : goal ≡ total + sum xs
 
 abbrev pub invariant-loop-at : goal.invariant-loop-at
 invariant-loop-at l = ColumnWalk l.words l.size l.index (SumLeft (sum (column l.size l.index l.words)) l.total l.at) l.at

@@ -5,9 +5,10 @@ use Rattle.format.proofs.CanonicalLengths.{length_bytes}
 use Rattle.output.specs.Outputs.{head_bytes}
 use Rattle.output.proofs.Parts.{PartsLeft, begin, in_two, room, turn, end}
 use Rattle.output.proofs.Chunks.{low_two}
+use Rattle.output.proofs.heads.put_sub_head.Goals.{Start}
 use Rattle.output.proofs.heads.put_sub_head.Goals as goal
 
-started : (s : goal.Start)
+started : (s : Start)
     → PartsLeft (head_bytes 2 s.args.tag s.args.n) (bytes 4 s.args.tag ∷ bytes 2 s.args.n ∷ []) s.args.out.now s.args.at s.args.out.now s.args.at
 started s = begin (in_two (bytes 4 s.args.tag) (bytes 2 s.args.n)) s.requires
 

@@ -2,7 +2,7 @@
 use mathlib.Core.Path.{refl, sym}
 use native.Mathlib.Omega.{arith}
 use lib.Seq.{length-take-le}
-use Rattle.output.proofs.PutSoFar.{then-wrote, string_is, string_parts}
+use Rattle.output.proofs.PutSoFar.{then_wrote, string_is, string_parts}
 use Rattle.output.proofs.items.put_string.Goals as goal
 
 pub put_bytes-next-requires : goal.put_bytes-next-requires
@@ -19,4 +19,4 @@ put_bytes-requires c =
 pub returns : goal.returns
 returns c =
     let name = c.args.name.now in
-    rw (string_is name _ refl) (then-wrote c.put_bytes-next.ensures c.put_bytes.ensures (omega (arith, c.requires, string_parts name _ refl)))
+    rw (string_is name _ refl) (then_wrote c.put_bytes-next.ensures c.put_bytes.ensures (omega (arith, c.requires, string_parts name _ refl)))

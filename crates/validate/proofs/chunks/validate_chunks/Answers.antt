@@ -3,12 +3,13 @@ use Prim.Native.Nat.{◌-◌}
 use native.Mathlib.Omega.{arith}
 use Rattle.headers.specs.declared.Header.{Header}
 use Rattle.headers.specs.Promises.{HeaderAt}
-use Rattle.validate.proofs.ChunksWalk.{begin, end, no_header, in-file, stop, turn}
+use Rattle.validate.proofs.ChunksWalk.{begin, end, no_header, in_file, stop, turn}
 use Rattle.headers.proofs.ChunkInFile.{long}
+use Rattle.validate.proofs.chunks.validate_chunks.Goals.{In-Got}
 use Rattle.validate.proofs.chunks.validate_chunks.Goals as goal
 
 -- the chunk of this turn
-header : (c : goal.In-Got-2)
+header : (c : In-Got)
     → HeaderAt 4 c.args.file.now c.loop-at.at (Header.Got c.in-Got.tag c.in-Got.end c.in-Got.next)
 header c = rw c.in-Got.is at c.chunk_at.ensures
 
@@ -21,25 +22,25 @@ returns-in_default c =
 
 pub step-requires : goal.step-requires
 step-requires c =
-    let l = long (header (goal.at.step-requires c).In-Got-2) in
-    (rw l (omega (arith, (header (goal.at.step-requires c).In-Got-2).inside)), rw l (omega (arith, (header (goal.at.step-requires c).In-Got-2).inside, c.loop-at.invariant.few, c.type_inv)))
+    let l = long (header (goal.at.step-requires c).In-Got) in
+    (rw l (omega (arith, (header (goal.at.step-requires c).In-Got).inside)), rw l (omega (arith, (header (goal.at.step-requires c).In-Got).inside, c.loop-at.invariant.few, c.type_inv)))
 
 pub place-requires : goal.place-requires
 place-requires c =
-    let told = in-file c.loop-at.invariant c.loop-at-test.true (header (goal.at.place-requires c).In-Got-2) (rw c.in-Stop.is at c.step.ensures) in
+    let told = in_file c.loop-at.invariant c.loop-at-test.true (header (goal.at.place-requires c).In-Got) (rw c.in-Stop.is at c.step.ensures) in
     omega (arith, told, c.type_inv)
 
 pub returns-in-Stop : goal.returns-in-Stop
 returns-in-Stop c =
-    stop c.loop-at.invariant c.loop-at-test.true (header (goal.at.returns-in-Stop c).In-Got-2) (rw c.in-Stop.is at c.step.ensures) c.place.ensures
+    stop c.loop-at.invariant c.loop-at-test.true (header (goal.at.returns-in-Stop c).In-Got) (rw c.in-Stop.is at c.step.ensures) c.place.ensures
 
 pub loop-at-smaller : goal.loop-at-smaller
 loop-at-smaller c =
-    omega (arith, (header (goal.at.loop-at-smaller c).In-Got-2).inside, c.loop-at-test.true)
+    omega (arith, (header (goal.at.loop-at-smaller c).In-Got).inside, c.loop-at-test.true)
 
 pub loop-at-preserved : goal.loop-at-preserved
 loop-at-preserved c =
-    turn c.loop-at.invariant c.loop-at-test.true (header (goal.at.loop-at-preserved c).In-Got-2) (rw c.in-Go.is at c.step.ensures)
+    turn c.loop-at.invariant c.loop-at-test.true (header (goal.at.loop-at-preserved c).In-Got) (rw c.in-Go.is at c.step.ensures)
 
 pub returns : goal.returns
 returns c = end c.loop-at.invariant c.loop-at-test.false

@@ -14,7 +14,7 @@ returns-then-not-in_name_list c =
     let o = rw c.in-Got.is at c.lwob_entry_at.ensures in
     record {
       says = on_some _ o.vertices.says (λ vs q. off _ (bad_some _ _ o.sign.says
-          (λ z e. names_one z e _ c.in_name_list.ensures (not-true _ c.if-not-in_name_list.true))));
+          (λ z e. names_one z e _ c.in_name_list.ensures c.if-not-in_name_list.true)));
       moves = tt;
     }
 
@@ -32,7 +32,7 @@ returns-in-Stop-details_after c =
     let d = rw c.in-Stop-details_after.is at c.details_after.ensures in
     record {
       says = on_some _ o.vertices.says (λ vs q. on_some _
-          (good_some _ _ o.sign.says (λ z e. names_one z e _ c.in_name_list.ensures (not-false _ c.if-not-in_name_list.false)))
+          (good_some _ _ o.sign.says (λ z e. names_one z e _ c.in_name_list.ensures c.if-not-in_name_list.false))
           (λ z e. off _ (by_sign _ _ z e d.says)));
       moves = tt;
     }
@@ -44,7 +44,7 @@ returns-in-Got-details_after c =
     let d = rw c.in-Got-details_after.is at c.details_after.ensures in
     record {
       says = on_some _ o.vertices.says (λ vs q. on_some _
-          (good_some _ _ o.sign.says (λ z e. names_one z e _ c.in_name_list.ensures (not-false _ c.if-not-in_name_list.false)))
+          (good_some _ _ o.sign.says (λ z e. names_one z e _ c.in_name_list.ensures c.if-not-in_name_list.false))
           (λ z e. on _ (by_sign _ _ z e d.says) (given (rw q))));
       moves = omega (arith, o.vertices.moves, o.sign.moves, d.moves);
     }

@@ -13,11 +13,11 @@ pub returns-then-not-polygon_type : goal.returns-then-not-polygon_type
 unfolding polygons_body
 returns-then-not-polygon_type c =
     let w = rw c.in-Got.is at c.u4.ensures in
-    faulty (off _ (bad _ _ w.says (sym c.polygon_type.ensures ∙ not-true _ c.if-not-polygon_type.true)))
+    faulty (off _ (bad _ _ w.says (sym c.polygon_type.ensures ∙ c.if-not-polygon_type.true)))
 
 pub returns : goal.returns
 unfolding polygons_body
 returns c =
     let w = rw c.in-Got.is at c.u4.ensures in
-    judged_on _ (good _ _ w.says (sym c.polygon_type.ensures ∙ not-false _ c.if-not-polygon_type.false))
+    judged_on _ (good _ _ w.says (sym c.polygon_type.ensures ∙ c.if-not-polygon_type.false))
     (rw c.polygon_kind.ensures at c.entries.ensures)

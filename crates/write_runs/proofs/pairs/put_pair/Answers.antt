@@ -2,7 +2,7 @@
 use Prim.Native.Nat.{◌-◌}
 use native.Mathlib.Omega.{arith}
 use Rattle.format.proofs.CanonicalLengths.{length_bytes}
-use Rattle.output.proofs.PutSoFar.{wrote_none, then-wrote}
+use Rattle.output.proofs.PutSoFar.{wrote_none, then_wrote}
 use Rattle.mesh.proofs.Pairs.{no_pair, a_pair, pair_parts}
 use Rattle.write_runs.proofs.pairs.put_pair.Goals as goal
 
@@ -22,4 +22,4 @@ put_u2-requires c =
 pub returns : goal.returns
 returns c =
     let some = c.if-number-eq0.false in
-    rw (a_pair c.args.i c.args.number some) (then-wrote c.put_vx-next.ensures c.put_u2.ensures (omega (arith, pair_parts c.args.i c.args.number some, length_bytes 2 (c.args.number - 1), c.requires.1)))
+    rw (a_pair c.args.i c.args.number some) (then_wrote c.put_vx-next.ensures c.put_u2.ensures (omega (arith, pair_parts c.args.i c.args.number some, length_bytes 2 (c.args.number - 1), c.requires.1)))

@@ -1,25 +1,13 @@
 -- A walk over one word of a run's polygons: each pair is put behind those before it.
-use Prim.Native.Nat.{ℕ, ◌+◌, ◌-◌, ◌*◌, ◌<◌, ◌≤◌}
-use mathlib.Core.Path.{◌≡◌, refl}
+use Prim.Native.Nat.{ℕ, ◌+◌, ◌-◌}
+use mathlib.Core.Path.{refl}
 use mathlib.Core.List.{List, ◌∷◌}
 use native.Mathlib.Omega.{arith}
-use lib.ListN.{length}
-use Rattle.format.specs.Limits.{entry_limit}
-use Rattle.format.specs.Mesh.{polygon_size}
-use Rattle.mesh.specs.Lent.{column}
 use Rattle.mesh.proofs.ColumnWalk as numbers
-use Rattle.mesh.proofs.ColumnWalk.{ColumnWalk}
 use Rattle.mesh.specs.Polygons.{pair_of, pairs_from}
-use Rattle.output.proofs.PutSoFar.{NextPart, PutSoFar, begin, room, turn, end}
+use Rattle.output.proofs.PutSoFar.{NextPart, begin, room, turn, end}
 use Rattle.mesh.proofs.Pairs.{pairs_left}
 use Rattle.write_runs.proofs.pairs.put_pairs.Goals as goal
-
--- the i-th polygon's entry comes next; its number has 24 bits
-record PairsPut (run : List ℕ) (index : ℕ) (t : List ℕ) (at : ℕ) (t' : List ℕ) (next i entry : ℕ) : Type 0 where
-  numbered : entry ≡ i * polygon_size
-  inside : index < polygon_size
-  few : length run ≤ polygon_size * entry_limit
-  walk : ColumnWalk run polygon_size index (λ ns. PutSoFar (pairs_from 0 (column polygon_size index run)) (pairs_from i ns) t at t' next) entry
 
 next_pair : (i n : ℕ) (ns : List ℕ) → NextPart (pairs_from i (n ∷ ns)) (pair_of i n) (pairs_from (i + 1) ns)
 next_pair i n ns = record { is = pairs_left i n ns }

@@ -2,7 +2,7 @@
 use native.Mathlib.Omega.{arith}
 use lib.ListN.{length}
 use Rattle.format.proofs.CanonicalLengths.{length_bytes}
-use Rattle.output.proofs.PutSoFar.{then-wrote}
+use Rattle.output.proofs.PutSoFar.{then_wrote}
 use Rattle.output.proofs.Chunks.{low_two}
 use Rattle.write_runs.proofs.PolsEntries.{polygon_parts}
 use Rattle.write_runs.proofs.polygons.put_polygon.Goals as goal
@@ -20,4 +20,4 @@ put_vertices-requires c =
 pub returns : goal.returns
 returns c =
     let n = length c.args.vertices.now in
-    then-wrote (rw (low_two n) at c.put_u2-next.ensures) c.put_vertices.ensures (omega (arith, length_bytes 2 n, polygon_parts c.args.vertices.now, c.requires.1))
+    then_wrote (rw (low_two n) at c.put_u2-next.ensures) c.put_vertices.ensures (omega (arith, length_bytes 2 n, polygon_parts c.args.vertices.now, c.requires.1))

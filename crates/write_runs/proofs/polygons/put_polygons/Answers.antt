@@ -2,7 +2,7 @@
 use Prim.Native.Nat.{◌-◌}
 use native.Mathlib.Omega.{arith}
 use Rattle.mesh.proofs.PolygonWalk.{counted, ordered, room}
-use Rattle.write_runs.proofs.PolsEntries.{begin, room as put-room, turn, end}
+use Rattle.write_runs.proofs.PolsEntries.{begin, room as put_room, turn, end}
 use Rattle.write_runs.proofs.polygons.put_polygons.Goals as goal
 
 pub loop-entry-init : goal.loop-entry-init
@@ -25,7 +25,7 @@ slice_bounds-put_polygon-end c = room c.loop-entry.invariant.walk c.loop-entry-t
 
 pub put_polygon-next-requires : goal.put_polygon-next-requires
 put_polygon-next-requires c =
-    put-room c.loop-entry.invariant c.loop-entry-test.true c.polygon_at-p.ensures
+    put_room c.loop-entry.invariant c.loop-entry-test.true c.polygon_at-p.ensures
 
 pub loop-entry-preserved : goal.loop-entry-preserved
 loop-entry-preserved c =

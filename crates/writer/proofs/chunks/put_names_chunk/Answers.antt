@@ -10,18 +10,19 @@ use Rattle.mesh.proofs.Entries.{length_pieces}
 use Rattle.output.specs.Outputs.{chunks_bytes}
 use Rattle.output.proofs.PutSoFar.{wrote_none}
 use Rattle.output.proofs.Chunks.{BodyFirst, first_room, close_room, closed, chunk_is, left_out, put_in}
+use Rattle.writer.proofs.chunks.put_names_chunk.Goals.{Else-names-eq0, Start}
 use Rattle.writer.proofs.chunks.put_names_chunk.Goals as goal
 
-abbrev names : goal.Start → List Name
+abbrev names : Start → List Name
 names s = pieces s.args.names.now s.args.name_bytes.now
 
-many : (s : goal.Start) → length (names s) ≡ length s.args.names.now
+many : (s : Start) → length (names s) ≡ length s.args.names.now
 many s = length_pieces s.args.names.now s.args.name_bytes.now
 
-abbrev start : goal.Else-names-eq0 → goal.Start
+abbrev start : Else-names-eq0 → Start
 start x = x
 
-whole : (x : goal.Else-names-eq0)
+whole : (x : Else-names-eq0)
     → let s = start x in
     BodyFirst (chunks_bytes (unless_empty "TAGS" "" string_bytes (names s))) (tag_number "TAGS") (joined (map string_bytes (names s))) s.args.out.now s.args.at
 unfolding bytes number

@@ -7,15 +7,16 @@ use Rattle.format.specs.Canonical.{bytes, unless_empty}
 use Rattle.output.specs.Outputs.{chunks_bytes}
 use Rattle.output.proofs.PutSoFar.{wrote_none}
 use Rattle.output.proofs.Chunks.{BodyFirst, first_room, close_room, closed, chunk_is, left_out, put_in}
+use Rattle.writer.proofs.chunks.put_points_chunk.Goals.{Else-points-eq0, Start}
 use Rattle.writer.proofs.chunks.put_points_chunk.Goals as goal
 
-abbrev words : goal.Start → List ℕ
+abbrev words : Start → List ℕ
 words s = s.args.points.now
 
-abbrev start : goal.Else-points-eq0 → goal.Start
+abbrev start : Else-points-eq0 → Start
 start x = x
 
-whole : (x : goal.Else-points-eq0)
+whole : (x : Else-points-eq0)
     → let s = start x in
     BodyFirst (chunks_bytes (unless_empty "PNTS" "" (bytes 4) (words s))) (tag_number "PNTS") (joined (map (bytes 4) (words s))) s.args.out.now s.args.at
 unfolding bytes number
