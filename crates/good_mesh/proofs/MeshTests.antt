@@ -47,7 +47,7 @@ finite_points_lem (a ∷ b ∷ c ∷ ws) whole =
 
 -- ---- the counts, where they agree
 
-module _ (polygons vertices names name_bytes records : List ℕ) {b : Bool} (is : b ≡ counts_agree polygons vertices names name_bytes records) (pass : not b ≡ false) where
+module _ (polygons vertices names name_bytes records : List ℕ) {b : Bool} (is : b ≡ counts_agree polygons vertices names name_bytes records) (pass : b ≡ true) where
   pub vertices_agree : sum (vertex_counts polygons) ≡ length vertices
   unfolding counts_agree
   vertices_agree = eqb-true _ _ (every_at _ 0 (passed is pass))
@@ -120,40 +120,40 @@ module _ (points polygons vertices names name_bytes records : List ℕ) where
   -- ---- the code's answers, one after the other: a test that failed decides, and one that passed leaves it to the later ones
 
   module _ (x rest : Bool) {b : Bool} (so : is_mesh t ≡ (x && rest)) (is : b ≡ x) where
-    refused : not b ≡ true → false ≡ is_mesh t
+    refused : b ≡ false → false ≡ is_mesh t
     refused no_pass = sym (so ∙ rw (failed is no_pass))
 
-    onward : not b ≡ false → is_mesh t ≡ rest
+    onward : b ≡ true → is_mesh t ≡ rest
     onward pass = so ∙ rw (passed is pass)
 
   module _ {b₁ : Bool} (is₁ : b₁ ≡ whole_tables t) where
-    pub not_whole : not b₁ ≡ true → false ≡ is_mesh t
+    pub not_whole : b₁ ≡ false → false ≡ is_mesh t
     not_whole = refused (whole_tables t) _ split is₁
 
-    module _ (pass₁ : not b₁ ≡ false) {b₂ : Bool} (is₂ : b₂ ≡ agreeing) where
-      pub not_agreeing : not b₂ ≡ true → false ≡ is_mesh t
+    module _ (pass₁ : b₁ ≡ true) {b₂ : Bool} (is₂ : b₂ ≡ agreeing) where
+      pub not_agreeing : b₂ ≡ false → false ≡ is_mesh t
       not_agreeing = refused agreeing _ (decided (passed is₁ pass₁)) is₂
 
-      module _ (pass₂ : not b₂ ≡ false) {b₃ : Bool} (is₃ : b₃ ≡ finite_points) where
+      module _ (pass₂ : b₂ ≡ true) {b₃ : Bool} (is₃ : b₃ ≡ finite_points) where
         so₃ : is_mesh t ≡ (finite_points && (good_polygons && (good_records && names_pass)))
         so₃ = onward agreeing _ (decided (passed is₁ pass₁)) is₂ pass₂
 
-        pub not_finite : not b₃ ≡ true → false ≡ is_mesh t
+        pub not_finite : b₃ ≡ false → false ≡ is_mesh t
         not_finite = refused finite_points _ so₃ is₃
 
-        module _ (pass₃ : not b₃ ≡ false) {b₄ : Bool} (is₄ : b₄ ≡ good_polygons) where
+        module _ (pass₃ : b₃ ≡ true) {b₄ : Bool} (is₄ : b₄ ≡ good_polygons) where
           so₄ : is_mesh t ≡ (good_polygons && (good_records && names_pass))
           so₄ = onward finite_points _ so₃ is₃ pass₃
 
-          pub bad_polygon : not b₄ ≡ true → false ≡ is_mesh t
+          pub bad_polygon : b₄ ≡ false → false ≡ is_mesh t
           bad_polygon = refused good_polygons _ so₄ is₄
 
-          module _ (pass₄ : not b₄ ≡ false) {b₅ : Bool} (is₅ : b₅ ≡ good_records) where
+          module _ (pass₄ : b₄ ≡ true) {b₅ : Bool} (is₅ : b₅ ≡ good_records) where
             so₅ : is_mesh t ≡ (good_records && names_pass)
             so₅ = onward good_polygons _ so₄ is₄ pass₄
 
-            pub bad_record : not b₅ ≡ true → false ≡ is_mesh t
+            pub bad_record : b₅ ≡ false → false ≡ is_mesh t
             bad_record = refused good_records _ so₅ is₅
 
-            pub by_names : not b₅ ≡ false → {b : Bool} → b ≡ names_pass → b ≡ is_mesh t
+            pub by_names : b₅ ≡ true → {b : Bool} → b ≡ names_pass → b ≡ is_mesh t
             by_names pass₅ is = is ∙ sym (onward good_records _ so₅ is₅ pass₅)

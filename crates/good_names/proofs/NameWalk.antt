@@ -114,10 +114,10 @@ module _ {ns bytes : List ℕ} {i at : ℕ} (w : OwnWalk ns bytes i at) where
     own_room = omega (arith, w.fits, sum_index i ns some)
 
     module _ {b : Bool} (is : b ≡ own_name (take (at + n - at) (drop at bytes))) where
-      pub own_fails : not b ≡ true → false ≡ all own_name (pieces ns bytes)
+      pub own_fails : b ≡ false → false ≡ all own_name (pieces ns bytes)
       own_fails t = all_pass.fails w.pass (first_name ns bytes i at some long) (all_pass.failed (rw part at is) t)
 
-      pub own_turn : not b ≡ false → OwnWalk ns bytes (i + 1) (at + n)
+      pub own_turn : b ≡ true → OwnWalk ns bytes (i + 1) (at + n)
       own_turn t = record {
         fits = omega (arith, w.fits, sum_index i ns some);
         pass = all_pass.turn w.pass (first_name ns bytes i at some long) (all_pass.passed (rw part at is) t);

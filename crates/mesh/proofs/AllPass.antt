@@ -44,8 +44,8 @@ module _ {A : Type 0} {p : A → Bool} {xs rest : List A} {passed : Bool} (w : A
 
 -- ---- a test of the code that answers a test of the rules
 
-pub passed : {b x : Bool} → b ≡ x → not b ≡ false → x ≡ true
-passed {b} is test = sym is ∙ not-false b test
+pub passed : {b x : Bool} → b ≡ x → b ≡ true → x ≡ true
+passed is test = sym is ∙ test
 
-pub failed : {b x : Bool} → b ≡ x → not b ≡ true → x ≡ false
-failed {b} is test = sym is ∙ not-true b test
+pub failed : {b x : Bool} → b ≡ x → b ≡ false → x ≡ false
+failed is test = sym is ∙ test

@@ -16,11 +16,11 @@ module _ (points polygons vertices names name_bytes records : List ℕ) (room : 
   abbrev t : Tables
   t = lent points polygons vertices names name_bytes records
 
-  pub no_mesh : not b ≡ true → says not_mesh_number 0 ≡ written t room
+  pub no_mesh : b ≡ false → says not_mesh_number 0 ≡ written t room
   unfolding written
   no_mesh bad = rw (failed mesh_is bad)
 
-  module _ (ok : not b ≡ false) where
+  module _ (ok : b ≡ true) where
     a_mesh : is_mesh t ≡ true
     a_mesh = passed mesh_is ok
 

@@ -53,7 +53,7 @@ pub loop-i-preserved-then-next-i : goal.loop-i-preserved-then-next-i
 loop-i-preserved-then-next-i c =
     let l = c.loop-i in
     let y = next_taken l.next l.i l.m c.if-next-i.true in
-    rw (c.add.ensures.0, c.add.ensures.1.0, c.add.ensures.1.1, c.word_of-word.ensures, part)
+    rw (c.add.ensures.places_after, c.add.ensures.links_after, c.add.ensures.heads_after, c.word_of-word.ensures, part)
     (take_in l.invariant c.loop-i-test.true c.wide-n.ensures.0 (rw part at c.find.ensures) c.if-find-ne0.false y.0 y.1 refl)
 
 pub loop-i-preserved : goal.loop-i-preserved

@@ -3,4 +3,4 @@ use mathlib.Core.Path.{refl}
 use Rattle.name_index.proofs.add.Goals as goal
 
 pub returns : goal.returns
-returns c = rw c.bucket-b.ensures.0 (refl, (refl, refl))
+returns c = rw c.bucket-b.ensures.0 (record { places_after = refl; links_after = refl; heads_after = refl })

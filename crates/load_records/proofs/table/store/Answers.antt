@@ -8,7 +8,7 @@ use lib.ListN.{length, set, length-set}
 use Rattle.format.specs.Mesh.{record_size}
 use Rattle.format.specs.Promises.{Put}
 use Rattle.format.proofs.Puts.{put_none, put_length, put_snoc, put_append}
-use Rattle.load_records.proofs.table.store.Goals.{After-put_levels, After-slice_known-3-1, Start}
+use Rattle.load_records.proofs.table.store.Goals.{After-slice_known-3-1}
 use Rattle.load_records.proofs.table.store.Goals as goal
 
 module _ (t : List ℕ) (at w : ℕ) (room : at + record_size ≤ length t) {t₁ : List ℕ} {a b c d : ℕ} (p : Put (set t at w) (at + 1) (a ∷ b ∷ c ∷ d ∷ []) t₁) where
@@ -33,36 +33,28 @@ module _ (t : List ℕ) (at w : ℕ) (room : at + record_size ≤ length t) {t�
 pub put_levels-requires : goal.put_levels-requires
 put_levels-requires c =
     let h = c.requires.levels_have_bits in
-    (rw length-set (omega (arith, c.requires.record_size_in_bounds)), (h.red, h.green, h.blue, h.diffuse))
+    record { m_in_bounds = rw length-set (omega (arith, c.requires.record_size_in_bounds)); has_bits = (h.red, h.green, h.blue, h.diffuse) }
 
 pub put_levels-requires-2 : goal.put_levels-requires-2
 put_levels-requires-2 c =
     let h = c.requires.levels_have_bits in
     let long = five_length c.args.table.now (c.args.i * record_size) c.args.r.defined c.requires.record_size_in_bounds c.put_levels.ensures in
-    (omega (arith, long, c.requires.record_size_in_bounds), (h.luminosity, h.specular, h.reflection, h.transparency))
+    record { m_in_bounds = omega (arith, long, c.requires.record_size_in_bounds); has_bits = (h.luminosity, h.specular, h.reflection, h.transparency) }
 
--- after the levels
-abbrev first : After-slice_known-3-1 → After-put_levels
-first x = x
+-- the table after the levels, by what the two calls ensure
+abbrev Levels : After-slice_known-3-1 → Type 0
+Levels x = length x.put_levels-2.new.table ≡ length x.args.table.now
 
-abbrev start : After-slice_known-3-1 → Start
-start x = (first x).before.before.before
-
-abbrev table : After-slice_known-3-1 → List ℕ
-table x = (start x).args.table.now
-
-long : (x : After-slice_known-3-1) → length x.put_levels-2.new.0 ≡ length (table x)
+long : (x : After-slice_known-3-1) → Levels x
 long x =
-    let at = (start x).args.i * record_size in
-    nine_length (table x) at (start x).args.r.defined (start x).requires.0 (first x).put-levels.ensures x.put_levels-2.ensures
+    nine_length x.args.table.now (x.args.i * record_size) x.args.r.defined x.requires.record_size_in_bounds x.put_levels.ensures x.put_levels-2.ensures
 
 pub bounds-table-at-2 : goal.bounds-table-at-2
-bounds-table-at-2 c = omega (arith, long (goal.at.bounds-table-at-2 c).After-slice_known-3-1, (start (goal.at.bounds-table-at-2 c).After-slice_known-3-1).requires.0)
+bounds-table-at-2 c = omega (arith, long (goal.at.bounds-table-at-2 c).After-slice_known-3-1, c.requires.record_size_in_bounds)
 
 pub shape_of-table : goal.shape_of-table
 shape_of-table c = rw length-set (long (goal.at.shape_of-table c).After-slice_known-3-1)
 
 pub returns : goal.returns
 returns c =
-    let at = (start (goal.at.returns c).After-slice_known-3-1).args.i * record_size in
-    ten (table (goal.at.returns c).After-slice_known-3-1) at (start (goal.at.returns c).After-slice_known-3-1).args.r.defined (start (goal.at.returns c).After-slice_known-3-1).requires.0 (first (goal.at.returns c).After-slice_known-3-1).put-levels.ensures c.put_levels-2.ensures _
+    ten c.args.table.now (c.args.i * record_size) c.args.r.defined c.requires.record_size_in_bounds c.put_levels.ensures c.put_levels-2.ensures _

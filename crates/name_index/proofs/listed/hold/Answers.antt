@@ -7,7 +7,7 @@ use Rattle.name_index.proofs.ListedNames.{none_held, name_fits, name_short, one_
 use Rattle.name_index.proofs.listed.hold.Goals as goal
 
 pub loop-i-init : goal.loop-i-init
-loop-i-init c = let p = c.requires in (none_held p.1.0 p.0 p.1.1, omega arith)
+loop-i-init c = let p = c.requires in (none_held p.places_len.0 p.short_names p.places_len.1, omega arith)
 
 pub word_of-word-requires : goal.word_of-word-requires
 word_of-word-requires c =
@@ -25,7 +25,7 @@ pub loop-i-preserved : goal.loop-i-preserved
 loop-i-preserved c =
     let some = c.loop-i-test.true in
     let more = one_held c.loop-i.invariant.0 some c.wide-n.ensures.0 refl in
-    (rw (c.add.ensures.0, c.add.ensures.1.0, c.add.ensures.1.1, c.word_of-word.ensures, part) more, omega (arith, some))
+    (rw (c.add.ensures.places_after, c.add.ensures.links_after, c.add.ensures.heads_after, c.word_of-word.ensures, part) more, omega (arith, some))
 
 pub returns : goal.returns
 returns c = all_held c.loop-i.invariant.0 c.loop-i-test.false c.loop-i.invariant.1

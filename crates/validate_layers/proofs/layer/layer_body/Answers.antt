@@ -28,4 +28,4 @@ returns-in-At c =
     let number = rw c.in-Got.is at c.u2.ensures in
     let flags = rw c.in-Got-u2.is at c.u2-2.ensures in
     let w = rw c.in-At.is at c.pivot.ensures in
-    judged_on _ number.says (judged_on _ flags.says (judged_some _ w (λ pivot e. c.«name-and-parent».ensures)))
+    judged_on _ number.says (judged_on _ flags.says (judged_some _ w (λ pivot e. c.name_and_parent.ensures)))

@@ -45,7 +45,7 @@ pub loop-p-preserved-then-next-p : goal.loop-p-preserved-then-next-p
 loop-p-preserved-then-next-p c =
     let more = taken c.loop-p.invariant (rw c.in-Got.is at c.string.ensures) (rw part at c.find.ensures) c.if-find-ne0.false
     c.if-next-p.true c.if-n-gt255.false in
-    rw (c.add.ensures.0, c.add.ensures.1.0, c.add.ensures.1.1, c.word_of-word.ensures, part) more
+    rw (c.add.ensures.places_after, c.add.ensures.links_after, c.add.ensures.heads_after, c.word_of-word.ensures, part) more
 
 pub loop-p-smaller : goal.loop-p-smaller
 loop-p-smaller c = omega (arith, inside (rw c.in-Got.is at c.string.ensures), c.loop-p-test.true, c.requires.small)
