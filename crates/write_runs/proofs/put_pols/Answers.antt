@@ -1,5 +1,6 @@
 -- The body is the type and the polygons; its chunk is closed around it.
-use Prim.Native.Nat.{ℕ, ◌+◌}
+use Prim.Native.Nat.{ℕ, ◌+◌, ◌≤◌}
+use lib.ListN.{length}
 use mathlib.Core.List.{List, [], ◌∷◌, ◌++◌, map}
 use Rattle.format.specs.Bytes.{number, tag_number, spelt, joined}
 use Rattle.format.specs.Mesh.{word, polygon_size}
@@ -9,45 +10,42 @@ use Rattle.output.proofs.Parts.{PartsLeft, begin, in_two, room, turn, end}
 use Rattle.output.proofs.Chunks.{BodyFirst, first_room, close_room, closed}
 use Rattle.format.proofs.CanonicalLengths.{length_type}
 use Rattle.write_runs.proofs.Runs.{pols}
-use Rattle.write_runs.proofs.put_pols.Goals.{After-put_u4-first, Start}
 use Rattle.write_runs.proofs.put_pols.Goals as goal
 
-abbrev type : Start → List ℕ
-type s = spelt (type_of (word 0 (entry_at polygon_size 0 s.args.run.now)))
+module _ (run vertices : List ℕ) where
+  abbrev type : List ℕ
+  type = spelt (type_of (word 0 (entry_at polygon_size 0 run)))
 
-abbrev polygons : Start → List ℕ
-polygons s = joined (map polygon_bytes (mesh_polygons s.args.run.now s.args.vertices.now))
+  abbrev polygons : List ℕ
+  polygons = joined (map polygon_bytes (mesh_polygons run vertices))
 
-whole : (s : Start) → BodyFirst (chunk_bytes 4 "POLS" (type s ++ polygons s)) (tag_number "POLS") (type s ++ polygons s) s.args.out.now s.args.at
-whole s = pols s.args.run.now s.args.vertices.now s.requires.1
+  module _ (out : List ℕ) (at : ℕ) (fits : at + length (chunk_bytes 4 "POLS" (type ++ polygons)) ≤ length out) where
+    whole : BodyFirst (chunk_bytes 4 "POLS" (type ++ polygons)) (tag_number "POLS") (type ++ polygons) out at
+    whole = pols run vertices fits
 
--- the parts of the body that are left
-abbrev Body : Start → List (List ℕ) → List ℕ → ℕ → Type 0
-Body s left out next = PartsLeft (type s ++ polygons s) left s.args.out.now (s.args.at + 8) out next
+    -- the parts of the body that are left
+    abbrev Body : List (List ℕ) → List ℕ → ℕ → Type 0
+    Body left out' next = PartsLeft (type ++ polygons) left out (at + 8) out' next
 
-opened : (s : Start) → Body s (type s ∷ polygons s ∷ []) s.args.out.now (s.args.at + 8)
-opened s = begin (in_two (type s) (polygons s)) (first_room (whole s))
-
--- where the function began, seen from after a call
-abbrev start : After-put_u4-first → Start
-start u = u
-
-typed : (u : After-put_u4-first) → Body (start u) (polygons (start u) ∷ []) u.put_u4-first.new.0 u.put_u4-first.result
-typed u = turn (opened (start u)) (rw (u.type_of.ensures, u.kind.ensures) at u.put_u4-first.ensures)
+    opened : Body (type ∷ polygons ∷ []) out (at + 8)
+    opened = begin (in_two type polygons) (first_room whole)
 
 pub put_u4-first-requires : goal.put_u4-first-requires
-put_u4-first-requires c = rw length_type at (room (opened (goal.at.put_u4-first-requires c).Start))
+put_u4-first-requires c = rw length_type at (room (opened c.args.run.now c.args.vertices.now c.args.out.now c.args.at c.requires.1))
 
 pub put_polygons-end-requires : goal.put_polygons-end-requires
 put_polygons-end-requires c =
-    let lent = (start (goal.at.put_polygons-end-requires c).After-put_u4-first).requires.0.indexed in
-    record { agree = lent.lent.agree; small = lent.small; room = room (typed (goal.at.put_polygons-end-requires c).After-put_u4-first) }
+    let lent = c.requires.0.indexed.lent in
+    let typed = turn (opened c.args.run.now c.args.vertices.now c.args.out.now c.args.at c.requires.1) (rw (c.type_of.ensures, c.kind.ensures) at c.put_u4-first.ensures) in
+    record { agree = lent.agree; small = c.requires.0.indexed.small; room = room typed }
 
 pub close_chunk-requires : goal.close_chunk-requires
 close_chunk-requires c =
-    close_room (whole (start (goal.at.close_chunk-requires c).After-put_u4-first)) (end (turn (typed (goal.at.close_chunk-requires c).After-put_u4-first) c.put_polygons-end.ensures))
+    let typed = turn (opened c.args.run.now c.args.vertices.now c.args.out.now c.args.at c.requires.1) (rw (c.type_of.ensures, c.kind.ensures) at c.put_u4-first.ensures) in
+    close_room (whole c.args.run.now c.args.vertices.now c.args.out.now c.args.at c.requires.1) (end (turn typed c.put_polygons-end.ensures))
 
 pub returns : goal.returns
 unfolding number
 returns c =
-    closed (whole (start (goal.at.returns c).After-put_u4-first)) (end (turn (typed (goal.at.returns c).After-put_u4-first) c.put_polygons-end.ensures)) c.close_chunk.ensures
+    let typed = turn (opened c.args.run.now c.args.vertices.now c.args.out.now c.args.at c.requires.1) (rw (c.type_of.ensures, c.kind.ensures) at c.put_u4-first.ensures) in
+    closed (whole c.args.run.now c.args.vertices.now c.args.out.now c.args.at c.requires.1) (end (turn typed c.put_polygons-end.ensures)) c.close_chunk.ensures

@@ -1,98 +1,101 @@
 -- The values are put one after another.
-use Prim.Native.Nat.{ℕ}
+use Prim.Native.Nat.{ℕ, ◌+◌, ◌≤◌}
+use mathlib.Core.Path.{◌≡◌}
 use mathlib.Core.List.{List}
-use lib.ListN.{drop}
+use lib.ListN.{drop, length}
 use native.Mathlib.Omega.{arith}
 use Rattle.format.specs.Bytes.{number}
-use Rattle.format.specs.Mesh.{surface_from}
+use Rattle.format.specs.Mesh.{record_size, surface_from}
 use Rattle.write_surfaces.specs.Surfaces.{value_bytes}
 use Rattle.output.proofs.Parts.{PartsLeft, begin, room, turn, end}
 use Rattle.write_surfaces.proofs.Surfaces.{values, values_are}
-use Rattle.write_surfaces.proofs.put_values.Goals.{After-put_levels-diffuse, After-put_levels-luminosity, After-put_levels-reflection, After-put_levels-sides, After-put_levels-specular, After-put_levels-transparency, Start}
 use Rattle.write_surfaces.proofs.put_values.Goals as goal
 
--- where the function began, seen from after each call
-abbrev at_colour : After-put_levels-diffuse → Start
-at_colour u = u
+module _ (words : List ℕ) (size : length words ≡ record_size) (out : List ℕ) (at : ℕ) (fits : at + length (value_bytes (surface_from words)) ≤ length out) where
+  -- after so many of the values
+  abbrev After : (k : ℕ) → List ℕ → ℕ → Type 0
+  After k out' next = PartsLeft (value_bytes (surface_from words)) (drop k (values words)) out at out' next
 
-abbrev at_diffuse : After-put_levels-luminosity → Start
-at_diffuse u = at_colour u
-
-abbrev at_luminosity : After-put_levels-specular → Start
-at_luminosity u = at_diffuse u
-
-abbrev at_specular : After-put_levels-reflection → Start
-at_specular u = at_luminosity u
-
-abbrev at_reflection : After-put_levels-transparency → Start
-at_reflection u = at_specular u
-
-abbrev at_transparency : After-put_levels-sides → Start
-at_transparency u = at_reflection u
-
--- after so many of the values
-abbrev After : Start → (k : ℕ) → List ℕ → ℕ → Type 0
-After s k out next = PartsLeft (value_bytes (surface_from s.args.words.now)) (drop k (values s.args.words.now)) s.args.out.now s.args.at out next
-
-none : (s : Start) → After s 0 s.args.out.now s.args.at
-none s = begin (values_are s.args.words.now s.requires.0) s.requires.1
-
-colour : (u : After-put_levels-diffuse) → After (at_colour u) 1 u.put_levels-diffuse.new.0 u.put_levels-diffuse.result
-unfolding number
-colour u = turn (none u) u.put_levels-diffuse.ensures
-
-diffuse : (u : After-put_levels-luminosity) → After (at_diffuse u) 2 u.put_levels-luminosity.new.0 u.put_levels-luminosity.result
-unfolding number
-diffuse u = turn (colour u) u.put_levels-luminosity.ensures
-
-luminosity : (u : After-put_levels-specular) → After (at_luminosity u) 3 u.put_levels-specular.new.0 u.put_levels-specular.result
-unfolding number
-luminosity u = turn (diffuse u) u.put_levels-specular.ensures
-
-specular : (u : After-put_levels-reflection) → After (at_specular u) 4 u.put_levels-reflection.new.0 u.put_levels-reflection.result
-unfolding number
-specular u = turn (luminosity u) u.put_levels-reflection.ensures
-
-reflection : (u : After-put_levels-transparency) → After (at_reflection u) 5 u.put_levels-transparency.new.0 u.put_levels-transparency.result
-unfolding number
-reflection u = turn (specular u) u.put_levels-transparency.ensures
-
-transparency : (u : After-put_levels-sides) → After (at_transparency u) 6 u.put_levels-sides.new.0 u.put_levels-sides.result
-unfolding number
-transparency u = turn (reflection u) u.put_levels-sides.ensures
+  none : After 0 out at
+  none = begin (values_are words size) fits
 
 pub put_levels-diffuse-requires : goal.put_levels-diffuse-requires
 unfolding number
-put_levels-diffuse-requires c = room (none (goal.at.put_levels-diffuse-requires c).Start)
+put_levels-diffuse-requires c =
+    let s0 = none c.args.words.now c.requires.0 c.args.out.now c.args.at c.requires.1 in
+    room s0
 
 pub put_levels-luminosity-requires : goal.put_levels-luminosity-requires
 unfolding number
-put_levels-luminosity-requires c = room (colour (goal.at.put_levels-luminosity-requires c).After-put_levels-diffuse)
+put_levels-luminosity-requires c =
+    let s0 = none c.args.words.now c.requires.0 c.args.out.now c.args.at c.requires.1 in
+    let s1 : After c.args.words.now c.requires.0 c.args.out.now c.args.at c.requires.1 1 c.put_levels-diffuse.new.out c.put_levels-diffuse.result = turn s0 c.put_levels-diffuse.ensures in
+    room s1
 
 pub put_levels-specular-requires : goal.put_levels-specular-requires
 unfolding number
-put_levels-specular-requires c = room (diffuse (goal.at.put_levels-specular-requires c).After-put_levels-luminosity)
+put_levels-specular-requires c =
+    let s0 = none c.args.words.now c.requires.0 c.args.out.now c.args.at c.requires.1 in
+    let s1 : After c.args.words.now c.requires.0 c.args.out.now c.args.at c.requires.1 1 c.put_levels-diffuse.new.out c.put_levels-diffuse.result = turn s0 c.put_levels-diffuse.ensures in
+    let s2 : After c.args.words.now c.requires.0 c.args.out.now c.args.at c.requires.1 2 c.put_levels-luminosity.new.out c.put_levels-luminosity.result = turn s1 c.put_levels-luminosity.ensures in
+    room s2
 
 pub put_levels-reflection-requires : goal.put_levels-reflection-requires
 unfolding number
-put_levels-reflection-requires c = room (luminosity (goal.at.put_levels-reflection-requires c).After-put_levels-specular)
+put_levels-reflection-requires c =
+    let s0 = none c.args.words.now c.requires.0 c.args.out.now c.args.at c.requires.1 in
+    let s1 : After c.args.words.now c.requires.0 c.args.out.now c.args.at c.requires.1 1 c.put_levels-diffuse.new.out c.put_levels-diffuse.result = turn s0 c.put_levels-diffuse.ensures in
+    let s2 : After c.args.words.now c.requires.0 c.args.out.now c.args.at c.requires.1 2 c.put_levels-luminosity.new.out c.put_levels-luminosity.result = turn s1 c.put_levels-luminosity.ensures in
+    let s3 : After c.args.words.now c.requires.0 c.args.out.now c.args.at c.requires.1 3 c.put_levels-specular.new.out c.put_levels-specular.result = turn s2 c.put_levels-specular.ensures in
+    room s3
 
 pub put_levels-transparency-requires : goal.put_levels-transparency-requires
 unfolding number
-put_levels-transparency-requires c = room (specular (goal.at.put_levels-transparency-requires c).After-put_levels-reflection)
+put_levels-transparency-requires c =
+    let s0 = none c.args.words.now c.requires.0 c.args.out.now c.args.at c.requires.1 in
+    let s1 : After c.args.words.now c.requires.0 c.args.out.now c.args.at c.requires.1 1 c.put_levels-diffuse.new.out c.put_levels-diffuse.result = turn s0 c.put_levels-diffuse.ensures in
+    let s2 : After c.args.words.now c.requires.0 c.args.out.now c.args.at c.requires.1 2 c.put_levels-luminosity.new.out c.put_levels-luminosity.result = turn s1 c.put_levels-luminosity.ensures in
+    let s3 : After c.args.words.now c.requires.0 c.args.out.now c.args.at c.requires.1 3 c.put_levels-specular.new.out c.put_levels-specular.result = turn s2 c.put_levels-specular.ensures in
+    let s4 : After c.args.words.now c.requires.0 c.args.out.now c.args.at c.requires.1 4 c.put_levels-reflection.new.out c.put_levels-reflection.result = turn s3 c.put_levels-reflection.ensures in
+    room s4
 
 pub put_levels-sides-requires : goal.put_levels-sides-requires
 unfolding number
-put_levels-sides-requires c = room (reflection (goal.at.put_levels-sides-requires c).After-put_levels-transparency)
+put_levels-sides-requires c =
+    let s0 = none c.args.words.now c.requires.0 c.args.out.now c.args.at c.requires.1 in
+    let s1 : After c.args.words.now c.requires.0 c.args.out.now c.args.at c.requires.1 1 c.put_levels-diffuse.new.out c.put_levels-diffuse.result = turn s0 c.put_levels-diffuse.ensures in
+    let s2 : After c.args.words.now c.requires.0 c.args.out.now c.args.at c.requires.1 2 c.put_levels-luminosity.new.out c.put_levels-luminosity.result = turn s1 c.put_levels-luminosity.ensures in
+    let s3 : After c.args.words.now c.requires.0 c.args.out.now c.args.at c.requires.1 3 c.put_levels-specular.new.out c.put_levels-specular.result = turn s2 c.put_levels-specular.ensures in
+    let s4 : After c.args.words.now c.requires.0 c.args.out.now c.args.at c.requires.1 4 c.put_levels-reflection.new.out c.put_levels-reflection.result = turn s3 c.put_levels-reflection.ensures in
+    let s5 : After c.args.words.now c.requires.0 c.args.out.now c.args.at c.requires.1 5 c.put_levels-transparency.new.out c.put_levels-transparency.result = turn s4 c.put_levels-transparency.ensures in
+    room s5
 
 pub bounds-words-9 : goal.bounds-words-9
-bounds-words-9 c = omega (arith, (at_transparency (goal.at.bounds-words-9 c).After-put_levels-sides).requires.0)
+bounds-words-9 c = omega (arith, c.requires.0)
 
 pub put_sides-requires : goal.put_sides-requires
-put_sides-requires c = room (transparency (goal.at.put_sides-requires c).After-put_levels-sides)
+unfolding number
+put_sides-requires c =
+    let s0 = none c.args.words.now c.requires.0 c.args.out.now c.args.at c.requires.1 in
+    let s1 : After c.args.words.now c.requires.0 c.args.out.now c.args.at c.requires.1 1 c.put_levels-diffuse.new.out c.put_levels-diffuse.result = turn s0 c.put_levels-diffuse.ensures in
+    let s2 : After c.args.words.now c.requires.0 c.args.out.now c.args.at c.requires.1 2 c.put_levels-luminosity.new.out c.put_levels-luminosity.result = turn s1 c.put_levels-luminosity.ensures in
+    let s3 : After c.args.words.now c.requires.0 c.args.out.now c.args.at c.requires.1 3 c.put_levels-specular.new.out c.put_levels-specular.result = turn s2 c.put_levels-specular.ensures in
+    let s4 : After c.args.words.now c.requires.0 c.args.out.now c.args.at c.requires.1 4 c.put_levels-reflection.new.out c.put_levels-reflection.result = turn s3 c.put_levels-reflection.ensures in
+    let s5 : After c.args.words.now c.requires.0 c.args.out.now c.args.at c.requires.1 5 c.put_levels-transparency.new.out c.put_levels-transparency.result = turn s4 c.put_levels-transparency.ensures in
+    let s6 : After c.args.words.now c.requires.0 c.args.out.now c.args.at c.requires.1 6 c.put_levels-sides.new.out c.put_levels-sides.result = turn s5 c.put_levels-sides.ensures in
+    room s6
 
 pub returns : goal.returns
-returns c = end (turn (transparency (goal.at.returns c).After-put_levels-sides) c.put_sides.ensures)
+unfolding number
+returns c =
+    let s0 = none c.args.words.now c.requires.0 c.args.out.now c.args.at c.requires.1 in
+    let s1 : After c.args.words.now c.requires.0 c.args.out.now c.args.at c.requires.1 1 c.put_levels-diffuse.new.out c.put_levels-diffuse.result = turn s0 c.put_levels-diffuse.ensures in
+    let s2 : After c.args.words.now c.requires.0 c.args.out.now c.args.at c.requires.1 2 c.put_levels-luminosity.new.out c.put_levels-luminosity.result = turn s1 c.put_levels-luminosity.ensures in
+    let s3 : After c.args.words.now c.requires.0 c.args.out.now c.args.at c.requires.1 3 c.put_levels-specular.new.out c.put_levels-specular.result = turn s2 c.put_levels-specular.ensures in
+    let s4 : After c.args.words.now c.requires.0 c.args.out.now c.args.at c.requires.1 4 c.put_levels-reflection.new.out c.put_levels-reflection.result = turn s3 c.put_levels-reflection.ensures in
+    let s5 : After c.args.words.now c.requires.0 c.args.out.now c.args.at c.requires.1 5 c.put_levels-transparency.new.out c.put_levels-transparency.result = turn s4 c.put_levels-transparency.ensures in
+    let s6 : After c.args.words.now c.requires.0 c.args.out.now c.args.at c.requires.1 6 c.put_levels-sides.new.out c.put_levels-sides.result = turn s5 c.put_levels-sides.ensures in
+    end (turn s6 c.put_sides.ensures)
 
 pub shape_of-out : goal.shape_of-out
 shape_of-out c = (returns c).kept
