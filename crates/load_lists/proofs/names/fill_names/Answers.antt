@@ -46,11 +46,11 @@ put_names-requires c =
 
 pub shape_of-lengths-then-holds_names : goal.shape_of-lengths-then-holds_names
 shape_of-lengths-then-holds_names c =
-    c.put_names.auto.1.0 ∙ ap length c.loop-at.invariant.same_lengths
+    c.put_names.auto.lengths ∙ ap length c.loop-at.invariant.same_lengths
 
 pub shape_of-bytes-then-holds_names : goal.shape_of-bytes-then-holds_names
 shape_of-bytes-then-holds_names c =
-    c.put_names.auto.1.1.1.0 ∙ ap length c.loop-at.invariant.same_bytes
+    c.put_names.auto.bytes ∙ ap length c.loop-at.invariant.same_bytes
 
 pub returns-then-holds_names : goal.returns-then-holds_names
 returns-then-holds_names c =
@@ -68,10 +68,10 @@ pub returns : goal.returns
 returns c = unlisted c.loop-at.invariant c.loop-at-test.false
 
 pub slice_bounds-put_names-count : goal.slice_bounds-put_names-count
-slice_bounds-put_names-count c = omega (arith, (header c).inside)
+slice_bounds-put_names-count c = omega (arith, (header (goal.at.slice_bounds-put_names-count c).In-Got).inside)
 
 pub slice_bounds-put_names-start : goal.slice_bounds-put_names-start
-slice_bounds-put_names-start c = omega (arith, (header c).inside)
+slice_bounds-put_names-start c = omega (arith, (header (goal.at.slice_bounds-put_names-start c).In-Got).inside)
 
 pub slice_bounds-put_names-end : goal.slice_bounds-put_names-end
-slice_bounds-put_names-end c = omega (arith, (header c).inside)
+slice_bounds-put_names-end c = omega (arith, (header (goal.at.slice_bounds-put_names-end c).In-Got).inside)

@@ -8,21 +8,18 @@ use lib.Seq.{length-take-le}
 use Rattle.headers.specs.declared.Header.{Header}
 use Rattle.headers.specs.Promises.{HeaderAt}
 use Rattle.load_values.proofs.LastValues.{begin, turn, never_bad, never_stop, end}
-use Rattle.load_values.proofs.last_values.last_values.Goals.{At-loop-at, In-Got}
+use Rattle.load_values.proofs.last_values.last_values.Goals.{In-Got}
 use Rattle.load_values.proofs.last_values.last_values.Goals as goal
 
 pub loop-at-init : goal.loop-at-init
 loop-at-init c = begin c.requires c.none-last.ensures
 
 -- ---- the header of a sub-chunk, and its value
-abbrev loop : In-Got → At-loop-at
-loop x = x
-
 abbrev slice : In-Got → List ℕ
-slice x = (loop x).before.before.before.args.s.now
+slice x = x.args.s.now
 
 abbrev place : In-Got → ℕ
-place x = (loop x).loop.at
+place x = x.loop-at.at
 
 abbrev size : In-Got → ℕ
 size x = x.in-Got.end
@@ -49,11 +46,11 @@ value_of-requires c = rw (long (goal.at.value_of-requires c).In-Got) (omega (ari
 
 pub returns-in_default-value_of : goal.returns-in_default-value_of
 returns-in_default-value_of c =
-    absurd (never_stop (loop (goal.at.returns-in_default-value_of c).In-Got).loop.invariant (some (goal.at.returns-in_default-value_of c).In-Got) (header (goal.at.returns-in_default-value_of c).In-Got) (rw c.in_default-value_of.is at c.value_of_lem.ensures))
+    absurd (never_stop c.loop-at.invariant (some (goal.at.returns-in_default-value_of c).In-Got) (header (goal.at.returns-in_default-value_of c).In-Got) (rw c.in_default-value_of.is at c.value_of.ensures))
 
 pub with-last-requires : goal.with-last-requires
 with-last-requires c =
-    ((loop (goal.at.with-last-requires c).In-Got).loop.invariant.has_bits, (rw c.in-Got-value_of.is at c.value_of_lem.ensures).has_bits)
+    (c.loop-at.invariant.has_bits, (rw c.in-Got-value_of.is at c.value_of.ensures).has_bits)
 
 pub loop-at-smaller : goal.loop-at-smaller
 loop-at-smaller c =
@@ -61,7 +58,7 @@ loop-at-smaller c =
 
 pub loop-at-preserved : goal.loop-at-preserved
 loop-at-preserved c =
-    turn (loop (goal.at.loop-at-preserved c).In-Got).loop.invariant (some (goal.at.loop-at-preserved c).In-Got) (header (goal.at.loop-at-preserved c).In-Got) (rw c.in-Got-value_of.is at c.value_of_lem.ensures) c.with-last.ensures
+    turn c.loop-at.invariant (some (goal.at.loop-at-preserved c).In-Got) (header (goal.at.loop-at-preserved c).In-Got) (rw c.in-Got-value_of.is at c.value_of.ensures) c.with-last.ensures
 
 pub returns : goal.returns
 returns c = end c.loop-at.invariant c.loop-at-test.false
