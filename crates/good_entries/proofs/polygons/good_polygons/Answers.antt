@@ -10,7 +10,6 @@ use Rattle.mesh.proofs.AllPass as all_pass
 use Rattle.mesh.proofs.AllPass.{passed, failed}
 use Rattle.mesh.proofs.PolygonWalk.{begin, counted, ordered, here, turn, end}
 use Rattle.good_entries.proofs.GoodPolygons.{good_words, not_below, by_words, judged}
-use Rattle.good_entries.proofs.polygons.good_polygons.Goals.{Else-not-all_below, Start}
 use Rattle.good_entries.proofs.polygons.good_polygons.Goals as goal
 
 pub returns-then-not-all_below : goal.returns-then-not-all_below
@@ -19,18 +18,6 @@ returns-then-not-all_below c =
 
 pub loop-at-init : goal.loop-at-init
 loop-at-init c = begin c.requires all_pass.begin
-
-abbrev start : Else-not-all_below → Start
-start x = x
-
--- the entries decide
-decided : (x : Else-not-all_below)
-    → let s = start x in
-    let ps = mesh_polygons s.args.polygons.now s.args.vertices.now in
-    all (good_words s.args.names) ps ≡ all (good_polygon s.args.points s.args.names) ps
-decided x =
-    let s = start x in
-    by_words s.args.points s.args.names s.args.polygons.now s.args.vertices.now s.pre x.all_below.ensures x.if-not-all_below.false
 
 pub polygon_at-p-requires : goal.polygon_at-p-requires
 polygon_at-p-requires c = (omega arith, omega (arith, counted c.loop-at.invariant c.loop-at-test.true))
@@ -42,14 +29,14 @@ overflow_sub-p c =
 pub returns-then-not-good_entry : goal.returns-then-not-good_entry
 returns-then-not-good_entry c =
     let w = c.loop-at.invariant in
-    let b = judged (start (goal.at.returns-then-not-good_entry c).Else-not-all_below).args.names w c.loop-at-test.true c.polygon_at-p.ensures c.good_entry.ensures in
-    all_pass.fails (here w c.loop-at-test.true c.polygon_at-p.ensures) refl (failed b c.if-not-good_entry.true) ∙ decided (goal.at.returns-then-not-good_entry c).Else-not-all_below
+    let b = judged c.args.names w c.loop-at-test.true c.polygon_at-p.ensures c.good_entry.ensures in
+    all_pass.fails (here w c.loop-at-test.true c.polygon_at-p.ensures) refl (failed b c.if-not-good_entry.true) ∙ by_words c.args.points c.args.names c.args.polygons.now c.args.vertices.now c.requires c.all_below.ensures c.if-not-all_below.false
 
 pub loop-at-preserved : goal.loop-at-preserved
 loop-at-preserved c =
     let w = c.loop-at.invariant in
-    let b = judged (start (goal.at.loop-at-preserved c).Else-not-all_below).args.names w c.loop-at-test.true c.polygon_at-p.ensures c.good_entry.ensures in
+    let b = judged c.args.names w c.loop-at-test.true c.polygon_at-p.ensures c.good_entry.ensures in
     turn w c.loop-at-test.true c.polygon_at-p.ensures (all_pass.turn (here w c.loop-at-test.true c.polygon_at-p.ensures) refl (passed b c.if-not-good_entry.false))
 
 pub returns : goal.returns
-returns c = all_pass.end (end c.loop-at.invariant c.loop-at-test.false) refl ∙ decided (goal.at.returns c).Else-not-all_below
+returns c = all_pass.end (end c.loop-at.invariant c.loop-at-test.false) refl ∙ by_words c.args.points c.args.names c.args.polygons.now c.args.vertices.now c.requires c.all_below.ensures c.if-not-all_below.false
