@@ -7,7 +7,7 @@ use lib.ListN.{length, length-append, length-map}
 use borrow.Author.Rules.{rules as finding}
 use Rattle.format.specs.declared.Kind.{Kind}
 use Rattle.format.specs.Bytes.{sum, joined}
-use Rattle.format.specs.Mesh.{Polygon, rules}
+use Rattle.format.specs.Mesh.{Polygon, needs}
 use Rattle.format.specs.Bodies.{Part, point_list, name_list, polygon_list, tagging, surface, layer, skipped_chunk}
 use Rattle.format.specs.Rules.{added, after, points_of, names_of, skipped_of, details_of, from, tagged, polygons_in, mesh_of}
 use Rattle.format.specs.Promises.{polygons_listed, vertex_total}
@@ -110,7 +110,7 @@ counted_from (skipped_chunk ∷ parts) seen base end latest =
     search finding
 
 pub totals_are : (kind : Kind) (parts : List Part) → totals_of kind parts ≡ (seen_after nothing_seen parts).totals
-unfolding totals_of rules mesh_of sum
+unfolding totals_of needs mesh_of sum
 totals_are kind parts =
     let w = counted_from parts nothing_seen 0 0 [] in
     same _ _ (omega arith) (omega arith) (omega arith) (omega arith) (omega arith) (omega arith) (omega arith)

@@ -33,16 +33,21 @@ returns c =
     (λ b. lwo2_rest b _ (ne_eqb _ _ c.if-tag-eq-PNTS.false) (ne_eqb _ _ c.if-tag-eq-POLS.false) (ne_eqb _ _ c.if-tag-eq-TAGS.false) (ne_eqb _ _ c.if-tag-eq-PTAG.false) (ne_eqb _ _ c.if-tag-eq-LAYR.false))
 
 pub with_points-requires : goal.with_points-requires
+unfolding number
 with_points-requires c = points_fit (eq-eqb _ _ c.if-tag-eq-PNTS.true) c.requires
 
 pub returns-then-tag-eq-PNTS : goal.returns-then-tag-eq-PNTS
+unfolding number
 returns-then-tag-eq-PNTS c = points_put (eq-eqb _ _ c.if-tag-eq-PNTS.true) (rw c.left.ensures at c.with_points.ensures)
 
 pub returns-then-tag-eq-TAGS : goal.returns-then-tag-eq-TAGS
+unfolding number
 returns-then-tag-eq-TAGS c = names_put (holds_names _ (eq-eqb _ _ c.if-tag-eq-TAGS.true)) c.with_names.ensures
 
 pub with_layer-requires : goal.with_layer-requires
+unfolding number
 with_layer-requires c = layer_fits (eq-eqb _ _ c.if-tag-eq-LAYR.true) c.requires
 
 pub returns-then-tag-eq-LAYR : goal.returns-then-tag-eq-LAYR
+unfolding number
 returns-then-tag-eq-LAYR c = layer_put (eq-eqb _ _ c.if-tag-eq-LAYR.true) c.with_layer.ensures

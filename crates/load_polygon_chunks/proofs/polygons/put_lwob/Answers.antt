@@ -33,10 +33,13 @@ unfolding number
 returns c = nothing_new (λ b. lwob_rest b _ (ne_eqb _ _ c.if-tag-eq-PNTS.false) (ne_eqb _ _ c.if-tag-eq-POLS.false) (ne_eqb _ _ c.if-tag-eq-SRFS.false) (ne_eqb _ _ c.if-tag-eq-PCHS.false))
 
 pub with_points-requires : goal.with_points-requires
+unfolding number
 with_points-requires c = points_fit (eq-eqb _ _ c.if-tag-eq-PNTS.true) c.requires
 
 pub returns-then-tag-eq-PNTS : goal.returns-then-tag-eq-PNTS
+unfolding number
 returns-then-tag-eq-PNTS c = points_put (eq-eqb _ _ c.if-tag-eq-PNTS.true) (rw c.left.ensures at c.with_points.ensures)
 
 pub returns-then-tag-eq-SRFS : goal.returns-then-tag-eq-SRFS
+unfolding number
 returns-then-tag-eq-SRFS c = names_put (holds_names _ (eq-eqb _ _ c.if-tag-eq-SRFS.true)) c.with_names.ensures

@@ -9,7 +9,10 @@ loop-i-init c = missing_begin c.requires
 
 pub store-requires : goal.store-requires
 store-requires c =
-    (omega (arith, c.loop-i-test.true, c.loop-i.invariant.room, c.loop-i.invariant.kept), c.missing.ensures.has_bits)
+    record {
+      record_size_in_bounds = omega (arith, c.loop-i-test.true, c.loop-i.invariant.room, c.loop-i.invariant.kept);
+      levels_have_bits = c.missing.ensures.has_bits;
+    }
 
 pub loop-i-preserved : goal.loop-i-preserved
 loop-i-preserved c =
