@@ -42,7 +42,11 @@ pub put_chunk-requires : goal.put_chunk-requires
 put_chunk-requires c =
     let k = c.loop-at.invariant in
     let this = walk.chunk_here k.walked (header (goal.at.put_chunk-requires c).In-Got) in
-    (record { before = k.walked.before; part = this.part; sound = this.here }, (listed_room k, c.requires.may_be_indexed))
+    record {
+      chunk_sound = record { before = k.walked.before; part = this.part; sound = this.here };
+      listed_room = listed_room k;
+      may_be_indexed = c.requires.may_be_indexed;
+    }
 
 pub loop-at-smaller : goal.loop-at-smaller
 loop-at-smaller c = omega (arith, (header (goal.at.loop-at-smaller c).In-Got).inside, c.loop-at-test.true)

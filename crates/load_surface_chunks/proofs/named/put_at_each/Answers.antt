@@ -1,9 +1,9 @@
 -- The records of the names that were passed are as they will be, and each turn puts or keeps one (`RecordAtNames`).
 use borrow.Author.Rules.{rules}
 use Prim.Native.Nat.{◌-◌}
-use mathlib.Core.Logic.{⊎_elim}
 use native.Mathlib.Omega.{arith}
 use Rattle.load_surface_chunks.proofs.RecordAtNames.{begin, end, entry_room, name_room, turn_same, turn_other}
+use Rattle.load_surface_chunks.proofs.named.put_at_each.Goals.{then-same_bytes, else-same_bytes}
 use Rattle.load_surface_chunks.proofs.named.put_at_each.Goals as goal
 
 pub loop-i-init : goal.loop-i-init
@@ -21,17 +21,17 @@ pub slice_bounds-same_bytes-end : goal.slice_bounds-same_bytes-end
 slice_bounds-same_bytes-end c = name_room c.loop-i.invariant.1 c.loop-i-test.true
 
 pub store-requires : goal.store-requires
-store-requires c = (entry_room c.loop-i.invariant.1 c.loop-i-test.true, c.loop-i.invariant.0)
+store-requires c = record { record_size_in_bounds = entry_room c.loop-i.invariant.1 c.loop-i-test.true; levels_have_bits = c.loop-i.invariant.0 }
 
 pub loop-i-preserved : goal.loop-i-preserved
 loop-i-preserved c =
     let k = c.loop-i.invariant in
     let is = c.same_bytes.ensures in (
       k.0,
-      ⊎_elim
-          (λ w. rw w.5 (turn_same k.1 c.loop-i-test.true is w.0.taken w.2.ensures))
-          (λ w. rw w.1 (turn_other k.1 c.loop-i-test.true is w.0.left))
-          c.if-same_bytes.branch,
+      elim c.if-same_bytes.branch [
+        then-same_bytes w ↦ rw w.records-is (turn_same k.1 c.loop-i-test.true is w.if-same_bytes.true w.store.ensures)
+        | else-same_bytes w ↦ rw w.records-is (turn_other k.1 c.loop-i-test.true is w.if-same_bytes.false)
+      ],
     )
 
 pub shape_of-records : goal.shape_of-records

@@ -9,10 +9,11 @@ pub put_found-requires : goal.put_found-requires
 put_found-requires c =
     let p = c.requires in
     let some : 0 < length c.args.heads.now = omega (arith, c.if-heads-eq0.false) in
-    (p.1.0.index some, ((held_different p.1.0 some, indexed_room p.1.0 some p.0), p.1.1))
+    let indexed = p.may_be_indexed in
+    record { index = indexed.index some; different = (held_different indexed some, indexed_room indexed some p.listed_room); levels_have_bits = p.levels_have_bits }
 
 pub returns : goal.returns
 returns c =
     let p = c.requires in
     let some : 0 < length c.args.heads.now = omega (arith, c.if-heads-eq0.false) in
-    rw (p.1.0.are some) at c.put_found.ensures
+    rw (p.may_be_indexed.are some) at c.put_found.ensures

@@ -14,7 +14,7 @@ header : (c : In-Got)
 header c = rw c.in-Got.is at c.chunk_at.ensures
 
 pub loop-at-init : goal.loop-at-init
-loop-at-init c = begin c.nothing_Seen.ensures
+loop-at-init c = begin c.nothing_seen-seen.ensures
 
 pub returns-in_default : goal.returns-in_default
 returns-in_default c =
