@@ -9,6 +9,7 @@ use validate::counts::Totals;
 use wire::Refusal;
 
 // The number that the documents give a fault.
+#[tactic(auto, unfolding(format::specs::Refusals::number_of))]
 fn number_of(why: Fault) -> u32
     ensures { result ≡ number_of why }
 {

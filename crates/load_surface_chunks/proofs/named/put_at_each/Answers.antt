@@ -10,7 +10,7 @@ pub loop-i-init : goal.loop-i-init
 loop-i-init c = (c.requires.levels_have_bits, begin c.requires.listed_room)
 
 pub overflow_cast-end : goal.overflow_cast-end
-overflow_cast-end c = omega (arith, c.shared_slice_known-in-loop-i-1.given c.loop-i.i)
+overflow_cast-end c = omega (arith, c.type_inv.lengths c.loop-i.i)
 
 pub overflow_add-end : goal.overflow_add-end
 overflow_add-end c =

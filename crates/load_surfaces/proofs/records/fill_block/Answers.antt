@@ -10,7 +10,7 @@ pub slice_bounds-multiplier_of-end : goal.slice_bounds-multiplier_of-end
 slice_bounds-multiplier_of-end c = sym (length-take-le _ _ (omega (arith, c.total-end.ensures, c.requires.listed_room.inside)))
 
 pub hold-requires : goal.hold-requires
-hold-requires c = (c.requires.short_names.0, (refl, no_names _ _ _))
+hold-requires c = record { short_names = c.requires.short_names.0; places_len = (refl, no_names _ _ _) }
 
 pub slice_bounds-places-end : goal.slice_bounds-places-end
 slice_bounds-places-end c = omega (arith, c.hold.ensures.room, c.requires.short_names.0.few)
@@ -19,4 +19,4 @@ pub slice_bounds-put_surfaces-end : goal.slice_bounds-put_surfaces-end
 slice_bounds-put_surfaces-end c = sym (length-take-le _ _ (omega (arith, c.hold.ensures.room, c.requires.short_names.0.few)))
 
 pub put_surfaces-requires : goal.put_surfaces-requires
-put_surfaces-requires c = let p = c.requires in (p.0, (p.1.0, held_index c.hold.ensures p.1.1.1))
+put_surfaces-requires c = record { succeeds = c.requires.succeeds; listed_room = c.requires.listed_room; may_be_indexed = held_index c.hold.ensures c.requires.short_names.1 }

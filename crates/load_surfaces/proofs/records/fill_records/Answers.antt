@@ -11,7 +11,7 @@ pub slice_bounds-fill_few-end : goal.slice_bounds-fill_few-end
 slice_bounds-fill_few-end c = sym (length-take-le _ _ (count_in (all_missing c.requires c.put_missing.ensures)))
 
 pub fill_few-requires : goal.fill_few-requires
-fill_few-requires c = let w = all_missing c.requires c.put_missing.ensures in (file_sound w, all_room w)
+fill_few-requires c = let w = all_missing c.requires c.put_missing.ensures in record { succeeds = file_sound w; listed_room = all_room w }
 
 pub returns-then-count-le-FEW : goal.returns-then-count-le-FEW
 returns-then-count-le-FEW c =
@@ -40,14 +40,14 @@ fill_block-n-requires c =
     let w = l.invariant in
     let from : l.i ≤ l.i + 8192 = omega arith in
     let to : l.i + 8192 ≤ c.args.count = omega (arith, c.loop-i-test.true) in
-    (file_sound w, (these_room w from to, (these_short w from to (omega arith), these_different w from to)))
+    record { succeeds = file_sound w; listed_room = these_room w from to; short_names = (these_short w from to (omega arith), these_different w from to) }
 
 pub overflow_add-at : goal.overflow_add-at
 overflow_add-at c =
     let l = c.loop-i in
     let from : l.i ≤ l.i + 8192 = omega arith in
     let to : l.i + 8192 ≤ c.args.count = omega (arith, c.loop-i-test.true) in
-    let fits = these_bytes l.invariant from to c.fill_block-n.ensures.0 in
+    let fits = these_bytes l.invariant from to c.fill_block-n.ensures.value in
     search (rules, fits)
 
 pub loop-i-preserved : goal.loop-i-preserved
@@ -55,7 +55,7 @@ loop-i-preserved c =
     let l = c.loop-i in
     let from : l.i ≤ l.i + 8192 = omega arith in
     let to : l.i + 8192 ≤ c.args.count = omega (arith, c.loop-i-test.true) in
-    these_stored l.invariant from to c.fill_block-n.ensures.0 c.fill_block-n.ensures.1
+    these_stored l.invariant from to c.fill_block-n.ensures.value c.fill_block-n.ensures.all_put
 
 -- ---- the names that are left
 pub overflow_mul-first-2 : goal.overflow_mul-first-2
@@ -89,7 +89,7 @@ fill_block-requires c =
     let w = l.invariant in
     let from : l.i ≤ c.args.count = omega (arith, left_over w) in
     let to : c.args.count ≤ c.args.count = omega arith in
-    (file_sound w, (these_room w from to, (these_short w from to (omega (arith, c.loop-i-test.false)), these_different w from to)))
+    record { succeeds = file_sound w; listed_room = these_room w from to; short_names = (these_short w from to (omega (arith, c.loop-i-test.false)), these_different w from to) }
 
 pub shape_of-records : goal.shape_of-records
 shape_of-records c =
@@ -97,7 +97,7 @@ shape_of-records c =
     let w = l.invariant in
     let from : l.i ≤ c.args.count = omega (arith, left_over w) in
     let to : c.args.count ≤ c.args.count = omega arith in
-    same_long (these_stored w from to c.fill_block.ensures.0 c.fill_block.ensures.1) ∙ c.put_missing.auto.0
+    same_long (these_stored w from to c.fill_block.ensures.value c.fill_block.ensures.all_put) ∙ c.put_missing.auto.records
 
 pub returns : goal.returns
 returns c =
@@ -105,4 +105,4 @@ returns c =
     let w = l.invariant in
     let from : l.i ≤ c.args.count = omega (arith, left_over w) in
     let to : c.args.count ≤ c.args.count = omega arith in
-    all_stored (these_stored w from to c.fill_block.ensures.0 c.fill_block.ensures.1) (omega arith) c.put_missing.ensures
+    all_stored (these_stored w from to c.fill_block.ensures.value c.fill_block.ensures.all_put) (omega arith) c.put_missing.ensures

@@ -27,7 +27,7 @@ returns-in_default-u2 c =
 
 pub overflow_add-table : goal.overflow_add-table
 overflow_add-table c =
-    record { fits = omega (arith, u2_small c.shared_slice_known-1.given (rw c.in-Got-u2.is at c.u2.ensures)) }
+    record { fits = omega (arith, u2_small c.type_inv.s (rw c.in-Got-u2.is at c.u2.ensures)) }
 
 pub bounds-table-i : goal.bounds-table-i
 bounds-table-i c =
