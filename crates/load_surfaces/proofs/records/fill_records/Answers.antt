@@ -97,7 +97,7 @@ shape_of-records c =
     let w = l.invariant in
     let from : l.i ≤ c.args.count = omega (arith, left_over w) in
     let to : c.args.count ≤ c.args.count = omega arith in
-    same_long (these_stored w from to c.fill_block.ensures.value c.fill_block.ensures.all_put) ∙ c.put_missing.auto.records
+    same_long (these_stored w from to c.fill_block.ensures.value c.fill_block.ensures.all_put) ∙ c.put_missing.auto.table
 
 pub returns : goal.returns
 returns c =
