@@ -11,7 +11,7 @@ use borrow.Author.Tests.{leb-true}
 use Rattle.format.specs.declared.Kind.{Kind}
 use Rattle.format.specs.declared.Fault.{Fault}
 use Rattle.format.specs.declared.Fault.TheVariants.{WrongLength, ItemCut, StringOpen}
-use Rattle.format.specs.Bytes.{if◌then◌else◌, ◌is◌, all, sum, negative}
+use Rattle.format.specs.Bytes.{if◌then◌else◌, all, sum, negative}
 use Rattle.format.specs.Items.{Verdict, fine, fault, Got, Reader, ◌>>=◌, ◌and_then◌, give, ◌or◌unless◌, ◌followed_by◌, times, up_to, many, item, uint, i2, float, vx, long, string, to_zero, string_size}
 use Rattle.format.specs.Chunks.{header_of, reader_of_length, Chunk, chunk_of, Chunks, finished, broken, chunk, link, split, chunks}
 use Rattle.format.specs.Mesh.{Name, Polygon}

@@ -7,7 +7,7 @@ use native.Mathlib.Omega.{arith}
 use lib.ListN.{length, drop}
 use lib.Seq.{take_at, drop_at}
 use borrow.Author.Tests.{le-ltb, eq-eqb}
-use Rattle.format.specs.Bytes.{◌is◌, number, spelt, sum}
+use Rattle.format.specs.Bytes.{number, spelt, sum}
 use Rattle.format.specs.Limits.{file_limit}
 use Rattle.format.specs.Refusals.{number_of}
 use Rattle.format.specs.Items.{Verdict, fine, fault, ◌and_then◌}

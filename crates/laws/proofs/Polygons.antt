@@ -10,7 +10,7 @@ use lib.Dec.{eqb}
 use lib.ListN.{length, length-append}
 use lib.Seq.{append_snoc}
 use borrow.Author.Tests.{eqb-true, eq-eqb}
-use Rattle.format.specs.Bytes.{if◌then◌else◌, spelt, number, all, joined, same}
+use Rattle.format.specs.Bytes.{if◌then◌else◌, spelt, number, all, joined}
 use Rattle.format.specs.Mesh.{Point, Polygon, polygon_of, Name, Surface, Mesh}
 use Rattle.format.specs.Bodies.{Part, point_list, name_list, surface}
 use Rattle.format.specs.Rules.{from, with_tag, retag, tagged, polygons_in}

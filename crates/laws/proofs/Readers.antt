@@ -21,7 +21,7 @@ use Rattle.format.specs.Refusals.{number_of, is_of_chunk}
 use Rattle.format.specs.Items.{Verdict, fine, fault, Got, Reader, ◌>>=◌, ◌and_then◌, give, ◌or◌unless◌, ◌followed_by◌, whole, times, up_to, many, item, uint, u2, i2, float, long, long_form, vx, string, to_zero, string_size}
 use Rattle.format.specs.Chunks.{Chunk, header_of, reader_of_length, size_of, length_of, well_formed, chunk_of, sub, unjudged}
 use Rattle.format.specs.Mesh.{Point, point_words, Polygon, FACE, PATCH, Name}
-use Rattle.format.specs.Surfaces.{Value, value, level_tag, float_level, lwob_value, lwo2_value, side_number, attribute, block_type, block_header, block, held, nested, surface_depth}
+use Rattle.format.specs.Surfaces.{Value, level_tag, float_level, lwob_value, lwo2_value, side_number, attribute, block_type, block_header, block, held, nested, surface_depth}
 use Rattle.format.specs.Bodies.{Part, point_list, name_list, polygon_list, tagging, surface, layer, skipped_chunk, point, points_body, layer_body, new_name, name, names_after, names_body, lwob_vertices, in_name_list, detail, details, details_after, face, faces_body, patch, patches_body, count_bits, lwo2_vertices, polygon, polygon_kind, polygons_body, pair, pairs_type, tagging_body, surface_strings, surface_body}
 use Rattle.format.specs.Rules.{Before, there, count, when◌read◌, judge}
 use Rattle.format.specs.Written.{good_polygon, has_no_zero, good_names}

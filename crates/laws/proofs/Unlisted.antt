@@ -7,7 +7,7 @@ use mathlib.Core.Bool.{true}
 use native.Mathlib.Omega.{arith}
 use native.Mathlib.Nat.{zero-add}
 use lib.ListN.{length}
-use Rattle.format.specs.Bytes.{◌is◌, sum, joined}
+use Rattle.format.specs.Bytes.{sum, joined}
 use Rattle.format.specs.Items.{fine}
 use Rattle.format.specs.declared.Kind.{Kind}
 use Rattle.format.specs.Chunks.{Chunk, size_of, Chunks, finished, broken, chunk}

@@ -1,8 +1,7 @@
 -- A loop that asks whether all elements of a list pass a test: those that are left decide.
 use mathlib.Core.Path.{◌≡◌, refl, sym, ◌∙◌}
 use mathlib.Core.List.{List, [], ◌∷◌}
-use mathlib.Core.Bool.{Bool, true, false, not, ◌&&◌, and_assoc, and-true}
-use borrow.Author.Tests.{not-true, not-false}
+use mathlib.Core.Bool.{Bool, true, false, ◌&&◌, and_assoc, and-true}
 use Rattle.format.specs.Bytes.{all}
 
 pub record AllPass {A : Type 0} (p : A → Bool) (xs rest : List A) : Type 0 where

@@ -7,7 +7,7 @@ use native.Mathlib.Omega.{arith}
 use lib.ListN.{length, get_or, drop}
 use Rattle.format.specs.Mesh.{Name}
 use Rattle.format.proofs.Indexed.{at_index, past_end}
-use Rattle.name_index.specs.Index.{mixed, hash_of, bucket_of}
+use Rattle.name_index.specs.Index.{bucket_of}
 
 pub product_fits : {a b : ℕ} → a < 2 ^ 32 → b < 2 ^ 32 → a * b < 2 ^ 64
 product_fits {a} {b} la lb =

@@ -1,5 +1,4 @@
 -- The names that no block has had yet decide.
-use Prim.Native.Nat.{◌-◌}
 use native.Mathlib.Omega.{arith}
 use borrow.Author.Tests.{not-true, not-false}
 use Rattle.good_names.proofs.NamePass.{first_pass, next_pass, last_pass, not_new}

@@ -1,5 +1,4 @@
 -- A name is among those that are left, or is one that was passed.
-use Prim.Native.Nat.{◌-◌}
 use native.Mathlib.Omega.{arith}
 use Rattle.good_names.proofs.NameWalk.{search_begin, search_room, search_turn, found, not_there}
 use Rattle.good_names.proofs.among.Goals as goal

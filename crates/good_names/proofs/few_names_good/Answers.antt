@@ -1,9 +1,7 @@
 -- The names before the place are those that the front of the lengths cuts out.
-use Prim.Native.Nat.{◌-◌}
 use mathlib.Core.Path.{sym}
 use native.Mathlib.Omega.{arith}
 use lib.Seq.{length-take-le}
-use borrow.Author.Tests.{not-true, not-false}
 use Rattle.good_names.proofs.NameWalk.{begin, earlier_fit, room, turn, fails, end}
 use Rattle.good_names.proofs.few_names_good.Goals as goal
 

@@ -1,5 +1,4 @@
 -- The bytes that are left decide, as long as each so far was not zero.
-use Prim.Native.Nat.{◌-◌}
 use mathlib.Core.Path.{ap}
 use mathlib.Core.Bool.{not}
 use borrow.Author.Tests.{eq-eqb, ne_eqb}

@@ -1,5 +1,4 @@
 -- The names that are left decide, as long as each so far was good by itself.
-use Prim.Native.Nat.{◌-◌}
 use native.Mathlib.Omega.{arith}
 use Rattle.good_names.proofs.NameWalk.{own_begin, own_room, own_turn, own_fails, own_end}
 use Rattle.good_names.proofs.own_names.Goals as goal

@@ -1,5 +1,4 @@
 -- The block's names are new and at hand, and those that were looked up after it are none of them.
-use Prim.Native.Nat.{◌-◌}
 use mathlib.Core.Path.{refl, sym}
 use native.Mathlib.Omega.{arith}
 use lib.Seq.{length-take-le}

@@ -1,6 +1,5 @@
 -- Each refusal is one test of a well-formed chunk that fails, in its order.
 use borrow.Author.Rules.{rules}
-use borrow.Author.Tests.{not-true, not-false}
 use Rattle.headers.proofs.Headers.{too_long, no_pad, found}
 use Rattle.headers.proofs.framed.Goals as goal
 

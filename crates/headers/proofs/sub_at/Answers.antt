@@ -1,6 +1,5 @@
 -- The tag is good and the length has two bytes, and the rest is `framed`'s.
 use borrow.Author.Rules.{rules}
-use borrow.Author.Tests.{not-true, not-false}
 use mathlib.Core.Path.{sym, ◌∙◌}
 use Rattle.headers.proofs.Headers.{cut, no_tag, length_is}
 use Rattle.headers.proofs.sub_at.Goals as goal

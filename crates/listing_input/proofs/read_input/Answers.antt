@@ -1,5 +1,4 @@
 -- No read takes more than what is left of the buffer.
-use Prim.Native.Nat.{◌-◌}
 use mathlib.Core.Path.{sym}
 use native.Mathlib.Omega.{arith}
 use lib.Seq.{length-take-le}

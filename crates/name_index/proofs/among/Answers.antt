@@ -1,5 +1,4 @@
 -- None of the names before number k is the one that is looked for.
-use Prim.Native.Nat.{◌-◌}
 use Rattle.name_index.proofs.Links.{begin, none_there, one_there, next_one}
 use Rattle.name_index.proofs.among.Goals as goal
 

@@ -1,6 +1,5 @@
 -- The bytes before the index are in the hash, and those after it are still to be mixed in.
 use mathlib.Core.Path.{refl, ◌∙◌}
-use Prim.Native.Nat.{◌-◌}
 use Rattle.name_index.specs.Index.{mixed}
 use Rattle.name_index.proofs.HashLoop.{one_byte_more, no_byte_left}
 use Rattle.name_index.proofs.hash.Goals as goal

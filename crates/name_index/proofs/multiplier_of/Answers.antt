@@ -1,7 +1,6 @@
 -- The bytes before the index are in the second hash, and those after it are still to be mixed in.
 use mathlib.Core.Path.{ap, ◌∙◌}
 use mathlib.Core.List.{foldl}
-use Prim.Native.Nat.{◌-◌}
 use Rattle.name_index.specs.Index.{mixed_again}
 use Rattle.name_index.proofs.HashLoop.{one_byte_more, no_byte_left}
 use Rattle.name_index.proofs.multiplier_of.Goals as goal

@@ -1,5 +1,4 @@
 -- Of equal lengths, all bytes before the index are equal.
-use Prim.Native.Nat.{◌-◌}
 use Rattle.format.proofs.SameLists.{different, begin, turn, differ, end}
 use Rattle.words.proofs.same_bytes.Goals as goal
 

@@ -1,5 +1,4 @@
 -- Of equal lengths, all words before the index are equal.
-use Prim.Native.Nat.{◌-◌}
 use Rattle.format.proofs.SameLists.{different, begin, turn, differ, end}
 use Rattle.words.proofs.same_words.Goals as goal
 

@@ -1,5 +1,5 @@
 -- A walk over the runs that puts the chunks of each.
-use Prim.Native.Nat.{◌+◌, ◌-◌, ◌≤◌}
+use Prim.Native.Nat.{◌+◌, ◌≤◌}
 use native.Mathlib.Omega.{arith}
 use lib.ListN.{length}
 use Rattle.mesh.proofs.RunWalk.{later, run_few, room}

@@ -4,7 +4,7 @@ use mathlib.Core.Path.{◌≡◌}
 use lib.ListN.{length}
 use mathlib.Core.List.{List, [], ◌∷◌}
 use Rattle.format.specs.Bytes.{number, tag_number}
-use Rattle.format.specs.Mesh.{Surface, surface_from}
+use Rattle.format.specs.Mesh.{surface_from}
 use Rattle.format.specs.Canonical.{string_bytes, surface_bytes}
 use Rattle.write_surfaces.specs.Surfaces.{surface_chunk, value_bytes}
 use Rattle.output.proofs.PutSoFar.{wrote_none}

@@ -1,5 +1,4 @@
 -- The names and their records walked together, each with its chunk.
-use Prim.Native.Nat.{◌-◌}
 use native.Mathlib.Omega.{arith}
 use Rattle.write_surfaces.proofs.Surfaces.{begin, end, record_there, name_there, surface_room, turn}
 use Rattle.write_surfaces.proofs.put_surfaces.Goals as goal

@@ -1,7 +1,5 @@
 -- The words that are left decide, as long as each so far was finite.
-use Prim.Native.Nat.{◌-◌}
 use mathlib.Core.Path.{sym, ◌∙◌}
-use borrow.Author.Tests.{not-true, not-false}
 use Rattle.format.proofs.Indexed.{at_index, past_end}
 use Rattle.mesh.proofs.AllPass.{begin, turn, fails, end}
 use Rattle.good_entries.proofs.floats.all_finite.Goals as goal

@@ -1,5 +1,4 @@
 -- The tests so far, joined, and the vertices that are left decide together.
-use Prim.Native.Nat.{◌-◌}
 use Rattle.format.proofs.Indexed.{at_index, past_end}
 use Rattle.mesh.proofs.AllPass.{so_far_begin, so_far_turn, so_far_end}
 use Rattle.good_entries.proofs.polygons.all_below.Goals as goal

@@ -1,15 +1,10 @@
 -- All vertices being numbers of points, the entries decide: a walk over the polygons, those that are left deciding as long as each so far was good.
-use Prim.Native.Nat.{◌-◌}
-use mathlib.Core.Path.{◌≡◌, refl, ◌∙◌}
+use mathlib.Core.Path.{refl, ◌∙◌}
 use native.Mathlib.Omega.{arith}
-use borrow.Author.Tests.{not-true, not-false}
-use Rattle.format.specs.Bytes.{all}
-use Rattle.format.specs.Written.{good_polygon}
-use Rattle.mesh.specs.Lent.{mesh_polygons}
 use Rattle.mesh.proofs.AllPass as all_pass
 use Rattle.mesh.proofs.AllPass.{passed, failed}
 use Rattle.mesh.proofs.PolygonWalk.{begin, counted, ordered, here, turn, end}
-use Rattle.good_entries.proofs.GoodPolygons.{good_words, not_below, by_words, judged}
+use Rattle.good_entries.proofs.GoodPolygons.{not_below, by_words, judged}
 use Rattle.good_entries.proofs.polygons.good_polygons.Goals as goal
 
 pub returns-then-not-all_below : goal.returns-then-not-all_below

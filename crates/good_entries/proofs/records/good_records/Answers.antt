@@ -1,6 +1,4 @@
 -- Those records that are left decide, as long as each so far was good.
-use Prim.Native.Nat.{◌-◌}
-use borrow.Author.Tests.{not-true, not-false}
 use Rattle.good_entries.proofs.RecordWalk.{begin, long, turn, fails, end}
 use Rattle.good_entries.proofs.records.good_records.Goals as goal
 

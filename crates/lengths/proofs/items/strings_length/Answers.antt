@@ -1,5 +1,4 @@
 -- The length of each string is added to those before it.
-use Prim.Native.Nat.{◌-◌}
 use mathlib.Core.Path.{ap, ◌∙◌}
 use native.Mathlib.Omega.{arith}
 use Rattle.format.specs.Items.{string_size}

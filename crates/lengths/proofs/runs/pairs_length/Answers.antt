@@ -1,5 +1,4 @@
 -- A walk over one word of a run's polygons: the length of each pair is added to those before it.
-use Prim.Native.Nat.{◌-◌}
 use mathlib.Core.Path.{refl}
 use native.Mathlib.Omega.{arith}
 use Rattle.mesh.proofs.ColumnWalk.{begin, here, turn, end}

@@ -1,5 +1,4 @@
 -- A walk over the runs that adds the length of each.
-use Prim.Native.Nat.{◌-◌}
 use native.Mathlib.Omega.{arith}
 use Rattle.mesh.proofs.RunWalk.{begin, later, run_few, room, run_lent}
 use Rattle.lengths.proofs.SizeSum as sizes

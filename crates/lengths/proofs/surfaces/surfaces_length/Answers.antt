@@ -1,5 +1,4 @@
 -- The names and their records are walked together, and the length of each is added to those before it.
-use Prim.Native.Nat.{◌-◌}
 use native.Mathlib.Omega.{arith}
 use Rattle.lengths.proofs.SizeSum.{begin, turn, end, surfaces_more, surfaces_none}
 use Rattle.lengths.proofs.surfaces.surfaces_length.Goals as goal

@@ -1,5 +1,4 @@
 -- Each turn puts one byte more, after those before it.
-use Prim.Native.Nat.{◌-◌}
 use Rattle.load_lists.proofs.PutBytes.{bytes_begin, bytes_turn, bytes_end}
 use Rattle.load_lists.proofs.names.put_bytes.Goals as goal
 

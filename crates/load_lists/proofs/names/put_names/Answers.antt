@@ -1,6 +1,5 @@
 -- Each turn puts one name more, and no string is open, since the body was judged.
 use borrow.Author.Rules.{rules}
-use Prim.Native.Nat.{◌-◌}
 use native.Mathlib.Omega.{arith}
 use Rattle.load_lists.proofs.PutNames.{names_begin, never_open, NameRoom, rooms, names_turn, names_end}
 use Rattle.wire.specs.declared.cursor.Text.{Text}

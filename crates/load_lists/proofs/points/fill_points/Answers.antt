@@ -1,5 +1,5 @@
 -- The points of the chunks that were passed stand in the table, and each turn puts those of one chunk behind them (`PointsWalk`).
-use Prim.Native.Nat.{ℕ, ◌-◌}
+use Prim.Native.Nat.{ℕ}
 use mathlib.Core.List.{List}
 use native.Mathlib.Omega.{arith}
 use Rattle.headers.specs.declared.Header.{Header}

@@ -1,5 +1,4 @@
 -- Each turn puts the three words of one point, and the body holds whole points.
-use Prim.Native.Nat.{◌-◌}
 use Rattle.load_lists.proofs.PointWords.{words_fit}
 use Rattle.load_lists.proofs.PutPoints.{points_begin, y_fits, z_fits, point_turn, points_end}
 use borrow.Author.Rules.{rules}

@@ -1,6 +1,5 @@
 -- Each turn puts the tag of one pair more, and neither number of it is cut.
 use borrow.Author.Rules.{rules}
-use Prim.Native.Nat.{◌-◌}
 use native.Mathlib.Omega.{arith}
 use Rattle.wire.proofs.ReadAgain.{never}
 use Rattle.wire.proofs.Items.{u2_small}

@@ -1,6 +1,4 @@
 -- Each turn puts one vertex more, and none is cut.
-use Prim.Native.Nat.{◌-◌}
-use Rattle.format.specs.Items.{vx}
 use Rattle.load_vertices.proofs.PutVertices.{vertices_begin, vertices_end, item_never_cut, vertex_fits, vertices_turn}
 use Rattle.load_vertices.proofs.vertices.put_vx_vertices.Goals as goal
 

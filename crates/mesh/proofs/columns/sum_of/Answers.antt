@@ -1,5 +1,4 @@
 -- A walk over one word of each entry: what was added so far and the sum of those that are left make the sum.
-use Prim.Native.Nat.{◌-◌}
 use mathlib.Core.Path.{◌∙◌}
 use native.Mathlib.Omega.{arith}
 use Rattle.format.specs.Bytes.{sum}

@@ -1,5 +1,4 @@
 -- As long as the next polygon has the kind of the first, the run goes on: the end so far and those that follow make the run's end.
-use Prim.Native.Nat.{◌-◌}
 use Rattle.mesh.proofs.Runs.{run_begin, run_turn, run_other, run_past}
 use Rattle.mesh.proofs.polygons.run_end.Goals as goal
 

@@ -1,5 +1,4 @@
 -- The names before the index are in the index of names.
-use Prim.Native.Nat.{◌-◌}
 use mathlib.Core.Path.{refl}
 use native.Mathlib.Omega.{arith}
 use Rattle.format.proofs.Indexed.{part}

@@ -1,5 +1,4 @@
 -- The lengths before the index are added up, and those from it on are still to be.
-use Prim.Native.Nat.{◌-◌}
 use native.Mathlib.Omega.{arith}
 use Rattle.format.specs.Bytes.{sum}
 use Rattle.format.proofs.Indexed.{sum_index, past_end}

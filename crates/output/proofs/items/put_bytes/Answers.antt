@@ -1,5 +1,4 @@
 -- Each byte is put behind those before it.
-use Prim.Native.Nat.{◌-◌}
 use mathlib.Core.Path.{refl}
 use native.Mathlib.Omega.{arith}
 use Rattle.format.proofs.Indexed.{past_end}

@@ -1,5 +1,4 @@
 -- The names are put one after another; those that are left are cut from the bytes that are left.
-use Prim.Native.Nat.{◌-◌}
 use native.Mathlib.Omega.{arith}
 use Rattle.format.proofs.Indexed.{sum_index}
 use Rattle.output.proofs.PutSoFar.{begin, room, turn, end, strings_more, strings_none}

@@ -1,6 +1,4 @@
 -- Each vertex is put behind those before it.
-use Prim.Native.Nat.{◌-◌}
-use mathlib.Core.Bool.{true}
 use Rattle.format.specs.Canonical.{vx_bytes}
 use Rattle.output.proofs.PutSoFar.{below_at, begin, room, turn, end, joined_more, joined_none}
 use Rattle.output.proofs.items.put_vertices.Goals as goal

@@ -1,5 +1,4 @@
 -- Each word is put behind those before it.
-use Prim.Native.Nat.{◌-◌}
 use Rattle.format.specs.Canonical.{bytes}
 use Rattle.format.proofs.CanonicalLengths.{length_bytes}
 use Rattle.output.proofs.PutSoFar.{begin, room, turn, end, joined_more, joined_none}

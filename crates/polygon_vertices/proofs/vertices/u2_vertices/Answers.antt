@@ -1,5 +1,4 @@
 -- Each turn reads one vertex more, and its first fault is that of them all.
-use Rattle.format.specs.Items.{u2}
 use Rattle.format.proofs.CountLoop.{begin, end}
 use Rattle.polygon_vertices.proofs.CountedVertices.{run_cut, run_stop, run_turn}
 use Rattle.polygon_vertices.proofs.vertices.u2_vertices.Goals as goal

@@ -1,6 +1,5 @@
 -- All names before the place are at hand, and none of them is equal to an earlier one.
 use mathlib.Core.Path.{sym}
-use Prim.Native.Nat.{◌-◌}
 use native.Mathlib.Omega.{arith}
 use lib.Seq.{length-take-le}
 use Rattle.format.proofs.Indexed.{part}

@@ -1,5 +1,4 @@
 -- Before each pass, the names before its block are new, and apart from all later ones.
-use Prim.Native.Nat.{◌-◌}
 use native.Mathlib.Omega.{arith}
 use Rattle.validate_lists.proofs.BlockPass.{first_pass, last_pass}
 use Rattle.validate_lists.proofs.names.first_repeat.Goals as goal

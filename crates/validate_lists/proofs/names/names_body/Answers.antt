@@ -1,5 +1,4 @@
 -- The names before the place are a chain of strings, and what is counted is theirs; the place of the first repeat is not passed.
-use Prim.Native.Nat.{◌-◌}
 use native.Mathlib.Omega.{arith}
 use Rattle.wire.proofs.Items.{inside}
 use Rattle.validate_lists.proofs.BlockPass.{refusable, takeable}

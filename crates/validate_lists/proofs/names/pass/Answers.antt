@@ -1,6 +1,5 @@
 -- The names of the block are in the index; all names before the place were looked up amongst them, and none was found.
 use mathlib.Core.Path.{sym}
-use Prim.Native.Nat.{◌-◌}
 use native.Mathlib.Omega.{arith}
 use lib.Seq.{length-take-le}
 use Rattle.format.proofs.Indexed.{part}

@@ -1,6 +1,5 @@
 -- The first float that is not finite is the point's fault.
 use mathlib.Core.Path.{sym, ◌∙◌}
-use borrow.Author.Tests.{not-true, not-false}
 use Rattle.validate_lists.proofs.Floats.{x_bad, y_bad, z_bad, all_finite}
 use Rattle.validate_lists.proofs.points.finite_to.Goals as goal
 

@@ -1,7 +1,5 @@
 -- The length is judged first, so that each turn has a whole point before it.
 use mathlib.Core.Path.{sym, ◌∙◌}
-use Prim.Native.Nat.{◌-◌}
-use borrow.Author.Tests.{not-true, not-false}
 use Rattle.format.specs.Bodies.{points_body}
 use Rattle.format.proofs.ReaderSteps.{wrong_length, faulty}
 use Rattle.validate_lists.proofs.Floats.{begin, room, turn, stop, end}

@@ -1,5 +1,4 @@
 -- Each turn reads one entry more and adds what it has to the sums, which stay below the place.
-use Prim.Native.Nat.{◌-◌}
 use native.Mathlib.Omega.{arith}
 use Rattle.validate_polygons.proofs.CountedEntries.{begin, turn, stop, end}
 use Rattle.validate_polygons.proofs.entries.entries.Goals as goal

@@ -1,6 +1,5 @@
 -- Vertices, surface number and details are read and judged in this order.
 use native.Mathlib.Omega.{arith}
-use borrow.Author.Tests.{not-true, not-false}
 use Rattle.format.specs.Bodies.{face}
 use Rattle.format.specs.Items.{◌and_then◌, ◌>>=◌, ◌or◌unless◌}
 use Rattle.format.proofs.ReaderSteps.{on, on_some, off, given, good_some, bad_some}

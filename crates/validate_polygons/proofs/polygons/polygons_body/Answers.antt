@@ -1,6 +1,5 @@
 -- The type is read and judged, and the entries follow it.
 use mathlib.Core.Path.{sym, ◌∙◌}
-use borrow.Author.Tests.{not-true, not-false}
 use Rattle.format.specs.Bodies.{polygons_body}
 use Rattle.format.proofs.ReaderSteps.{off, cut, good, bad, faulty, judged_on}
 use Rattle.validate_polygons.proofs.polygons.polygons_body.Goals as goal

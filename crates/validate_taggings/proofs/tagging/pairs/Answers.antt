@@ -1,6 +1,5 @@
 -- Each turn reads one pair more, up to the end or the first fault.
 use mathlib.Core.Path.{refl}
-use Prim.Native.Nat.{◌-◌}
 use native.Mathlib.Omega.{arith}
 use Rattle.format.specs.Promises.{nothing}
 use Rattle.format.proofs.Entries.{many_alone, many_turn, many_stop, many_end}

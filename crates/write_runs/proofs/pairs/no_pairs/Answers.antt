@@ -1,5 +1,4 @@
 -- A walk over one word of the polygons: those that are left decide, as long as each so far was 0.
-use Prim.Native.Nat.{◌-◌}
 use mathlib.Core.Path.{refl}
 use native.Mathlib.Omega.{arith}
 use borrow.Author.Tests.{eq-eqb, ne_eqb}

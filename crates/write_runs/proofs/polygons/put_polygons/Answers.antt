@@ -1,5 +1,4 @@
 -- A walk over the polygons that puts each.
-use Prim.Native.Nat.{◌-◌}
 use native.Mathlib.Omega.{arith}
 use Rattle.mesh.proofs.PolygonWalk.{counted, ordered, room}
 use Rattle.write_runs.proofs.PolsEntries.{begin, room as put_room, turn, end}
