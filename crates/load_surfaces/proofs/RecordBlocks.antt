@@ -10,7 +10,7 @@ use lib.ListN.{length, take, drop, replicate, length-append, length-take, length
 use lib.Seq.{take_at, drop_at, drop-drop, take_all, length-take-le}
 use borrow.Rule.Slice.PartMut.{put_mid}
 use Rattle.format.specs.declared.Kind.{Kind}
-use Rattle.format.specs.Bytes.{if◌then◌else◌, all, sum, joined, same}
+use Rattle.format.specs.Bytes.{if◌then◌else◌, sum, joined, same}
 use Rattle.format.specs.Items.{fine}
 use Rattle.format.specs.Limits.{name_limit}
 use Rattle.format.specs.Mesh.{Name, Surface, missing, surface_words, record_size}

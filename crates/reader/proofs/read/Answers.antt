@@ -1,10 +1,7 @@
 -- Each way out has its law in `ReadAnswers`, and the type of a lent byte says that it is one.
 use native.Mathlib.Omega.{arith}
-use Rattle.format.specs.Bytes.{byte, all}
-use Rattle.format.specs.Mesh.{Tables, lent}
+use Rattle.format.specs.Mesh.{lent}
 use Rattle.format.proofs.Facts.{all_bytes}
-use Rattle.validate.specs.declared.FileResult.{FileResult}
-use Rattle.validate.specs.Promises.{FileJudged}
 use Rattle.reader.proofs.ReadAnswers.{read_refused, tables_room, read_accepted, read_no_room}
 use Rattle.reader.proofs.read.Goals as goal
 

@@ -1,5 +1,5 @@
 -- The polygons of the chunks that were passed stand in the tables, and each turn puts one chunk (`PolygonsWalk`).
-use Prim.Native.Nat.{ℕ, ◌-◌}
+use Prim.Native.Nat.{ℕ}
 use mathlib.Core.List.{List}
 use native.Mathlib.Omega.{arith}
 use Rattle.headers.specs.declared.Header.{Header}

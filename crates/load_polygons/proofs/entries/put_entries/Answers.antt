@@ -1,6 +1,5 @@
 -- Each turn puts one entry more, after those before it in both tables.
 use borrow.Author.Rules.{rules}
-use Prim.Native.Nat.{◌-◌}
 use native.Mathlib.Omega.{arith}
 use Rattle.load_polygons.proofs.PutEntries.{entries_begin, entries_end, entry_room, entry_fits, entries_turn}
 use Rattle.load_polygons.proofs.entries.put_entries.Goals as goal

@@ -1,5 +1,4 @@
 -- Each turn puts one missing record more, after those before it.
-use Prim.Native.Nat.{◌-◌}
 use native.Mathlib.Omega.{arith}
 use Rattle.load_records.proofs.MissingRecords.{missing_begin, missing_turn, missing_end}
 use Rattle.load_records.proofs.table.put_missing.Goals as goal

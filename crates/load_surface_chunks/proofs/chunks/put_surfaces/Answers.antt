@@ -1,5 +1,5 @@
 -- The records are as the SURFs that were passed leave them (`SurfacesWalk`).
-use Prim.Native.Nat.{ℕ, ◌-◌}
+use Prim.Native.Nat.{ℕ}
 use mathlib.Core.List.{List}
 use native.Mathlib.Omega.{arith}
 use Rattle.headers.specs.declared.Header.{Header}

@@ -1,6 +1,5 @@
 -- The records of the names that were passed are as they will be, and each turn puts or keeps one (`RecordAtNames`).
 use borrow.Author.Rules.{rules}
-use Prim.Native.Nat.{◌-◌}
 use native.Mathlib.Omega.{arith}
 use Rattle.load_surface_chunks.proofs.RecordAtNames.{begin, end, entry_room, name_room, turn_same, turn_other}
 use Rattle.load_surface_chunks.proofs.named.put_at_each.Goals.{then-same_bytes, else-same_bytes}

@@ -1,5 +1,4 @@
 -- What the file comes to is what was seen and what the chunks from here on add; each turn moves one chunk over (`ChunksWalk`).
-use Prim.Native.Nat.{◌-◌}
 use native.Mathlib.Omega.{arith}
 use Rattle.headers.specs.declared.Header.{Header}
 use Rattle.headers.specs.Promises.{HeaderAt}

@@ -1,6 +1,5 @@
 -- Its type is judged first, then its string; what follows the string is the level below.
 use Rattle.validate_surfaces.proofs.SubChunks.{other_type, no_string, header_holds}
-use borrow.Author.Tests.{not-true, not-false}
 use mathlib.Core.Path.{sym, ◌∙◌}
 use Rattle.validate_surfaces.proofs.nesting.block_header.Goals as goal
 
