@@ -1,5 +1,6 @@
 //! `host/library`: the library is never that of other sources. It runs in a small repository of
-//! its own, with a program `rt` that only notes that it was called.
+//! its own, with a program `rt` that only notes that it was called. That stands outside of the
+//! checkout, in which `rt ci` takes no other `crates.txt`.
 
 use std::fs::{self, Permissions};
 use std::os::unix::fs::PermissionsExt;
@@ -29,9 +30,7 @@ impl Repository {
     /// other is needed by none.
     fn new(name: &str) -> Repository {
         let turn = TURN.lock().unwrap_or_else(PoisonError::into_inner);
-        let root = Path::new(env!("CARGO_TARGET_TMPDIR"))
-            .join("library")
-            .join(name);
+        let root = std::env::temp_dir().join(format!("lwo-library-{}-{name}", std::process::id()));
         if root.exists() {
             fs::remove_dir_all(&root).expect("an old folder goes");
         }
@@ -90,11 +89,14 @@ impl Repository {
         assert_eq!(content, "built\n");
         assert_eq!(done.printed, format!("{}\n", library.display()), "{done:?}");
         let called = fs::read_to_string(self.root.join("called")).expect("the calls");
-        assert!(
-            called.lines().all(|line| line == "lwo_c lib"),
-            "{called}"
-        );
+        assert!(called.lines().all(|line| line == "lwo_c lib"), "{called}");
         called.lines().count()
+    }
+}
+
+impl Drop for Repository {
+    fn drop(&mut self) {
+        let _ = fs::remove_dir_all(&self.root);
     }
 }
 
