@@ -1,5 +1,5 @@
-// The static library for C and Rust: thin functions over the proved reader and writer. A slice is a pointer and a length in elements. No function has
-// a precondition, so that nothing a caller lends can break what is proved.
+// What the static library for C and Rust is made of: thin functions over the proved reader and writer, with answers in C's types. `lwo_c` exports each of them. No
+// function has a precondition, so that nothing a caller lends can break what is proved.
 #![tactic(auto)]
 
 ghost use Rattle.std.specs.Prelude.{◌≡◌};
@@ -36,16 +36,14 @@ pub struct LwoWritten {
 }
 
 // The library's version, its three numbers in one: the last two have eight bits each, and the first what is above them. The header has the same.
-#[unsafe(no_mangle)]
-pub extern "C" fn lwo_version() -> u32
+pub fn lwo_version() -> u32
     ensures { result ≡ version 0 2 0 }
 {
     512
 }
 
 // `read`, with its answer in C's types.
-#[unsafe(no_mangle)]
-pub extern "C" fn lwo_read(
+pub fn lwo_read(
     file: &[u8],
     points: &mut [u32],
     polygons: &mut [u32],
@@ -71,8 +69,7 @@ pub extern "C" fn lwo_read(
 }
 
 // `write`, with its answer in C's types.
-#[unsafe(no_mangle)]
-pub extern "C" fn lwo_write(
+pub fn lwo_write(
     points: &[u32],
     polygons: &[u32],
     vertices: &[u32],

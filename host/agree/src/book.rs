@@ -24,7 +24,7 @@ impl Book {
             let found = shut_definitions(&text);
             if !found.is_empty() {
                 uses.push_str(&format!(
-                    "use Rattle·format.specs.{module}.{{{}}}\n",
+                    "use Rattle.format.specs.{module}.{{{}}}\n",
                     found.join(", ")
                 ));
             }
@@ -59,7 +59,7 @@ mod tests {
     #[test]
     fn definitions_are_found() {
         assert_eq!(listed_modules("pub mod Bytes\npub mod Worked\n"), ["Bytes"]);
-        let text = "abbrev pub u2 : Reader ℕ\nunfoldable pub _is_ : ℕ\n_is_ = 0\n";
-        assert_eq!(shut_definitions(text), ["_is_"]);
+        let text = "abbrev pub u2 : Reader ℕ\nunfoldable pub ◌is◌ : ℕ\n◌is◌ = 0\n";
+        assert_eq!(shut_definitions(text), ["◌is◌"]);
     }
 }

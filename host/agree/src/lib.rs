@@ -3,7 +3,7 @@
 //! The specification's definitions are executable: the prover computes them. A
 //! case is a file with lent tables, or tables with a lent output, and what the
 //! second program answers. A theorem says that the specification answers the
-//! same. `rt check` proves it by computation, or names the case and shows where
+//! same. `rt all check` proves it by computation, or names the case and shows where
 //! the two differ.
 #![forbid(unsafe_code)]
 

@@ -18,7 +18,7 @@ usage: agree OUTDIR --rules CRATE [--seed S] [--files N] [--meshes M]
 Writes a repository into OUTDIR: a copy of the specification's crate, and
 theorems that it answers as the second program does: on all fixed files and
 meshes, and on N generated files and M generated meshes, or as many as the gate
-has. Then run `rt check` in OUTDIR. A line that it refuses has the case's name.
+has. Then run `rt all check` in OUTDIR. A line that it refuses has the case's name.
 ";
 
 struct Order {

@@ -93,7 +93,7 @@ mod tests {
     #[test]
     fn what_sees_it_is_told_apart() {
         assert_eq!(one("worked").seen, Seen::Worked);
-        assert_eq!(one("law x-y").seen, Seen::Law(String::from("x-y")));
+        assert_eq!(one("law x_y").seen, Seen::Law(String::from("x_y")));
         assert_eq!(
             one("targeted-1").seen,
             Seen::Case(String::from("targeted-1"))

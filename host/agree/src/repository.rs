@@ -58,7 +58,7 @@ pub fn write_law(folder: &Path, rules: &Path, name: &str) -> io::Result<()> {
 fn used_proofs(text: &str) -> Vec<String> {
     let uses = text
         .lines()
-        .filter_map(|line| line.strip_prefix("use Rattle·format·proofs.proofs."));
+        .filter_map(|line| line.strip_prefix("use Rattle.format.proofs."));
     uses.filter_map(|rest| rest.split(['.', ' ']).next())
         .map(String::from)
         .collect()
@@ -72,7 +72,7 @@ pub fn write_theorems(folder: &Path, cases: &[&Case]) -> io::Result<()> {
     fs::write(folder.join("crates.txt"), "format:\nagree: format\n")?;
     fs::write(
         theorems.join("src/lib.rt"),
-        "// The specification computed on cases, as theorems: see proofs/.\n",
+        "// The specification computed on cases, as theorems: see proofs/.\n#![tactic(auto)]\n",
     )?;
     let book = Book::read(&folder.join("crates/format/specs"))?;
     let mut modules = String::new();

@@ -23,13 +23,13 @@ const NAMED: usize = 4;
 /// many tries are made with cases.
 pub fn find(trial: &Trial, mutant: &Mutant, most: usize) -> Result<String, String> {
     let folder = trial.changed(mutant)?;
-    if by_table(&verdict(&folder, &["format"])?) {
+    if by_table(&verdict(&folder, Some("format"))?) {
         return Ok(String::from("worked"));
     }
     for some in tries(mutant, &trial.cases).into_iter().take(most) {
         let _ = fs::remove_dir_all(folder.join("crates/agree"));
         write_theorems(&folder, &some).map_err(|error| error.to_string())?;
-        let mut names = by_cases(&verdict(&folder, &[])?);
+        let mut names = by_cases(&verdict(&folder, None)?);
         if !names.is_empty() {
             names.sort_by_key(|name| goes_by_seed(name));
             let count = names.len();
@@ -38,7 +38,7 @@ pub fn find(trial: &Trial, mutant: &Mutant, most: usize) -> Result<String, Strin
         }
     }
     trial.add_laws(&folder)?;
-    let verdict = verdict(&folder, &["format"])?;
+    let verdict = verdict(&folder, Some("format"))?;
     let laws = verdict.refusals.iter().map(|one| one.declaration.as_str());
     match verdict.proved {
         false => Ok(format!("law {}", laws.collect::<Vec<&str>>().join(" "))),

@@ -8,8 +8,8 @@ use crate::case::{Case, Sort};
 const OF_FILES: &str = "said : List ℕ → Tables → List ℕ × Tables
 said s t =
     let a : Answer = answer (rules s) t in
-    let n = a .needs in
-    (a .number ∷ a .place ∷ n .points ∷ n .polygons ∷ n .vertices ∷ n .names ∷ n .nameBytes ∷ a .skipped ∷ a .details ∷ [], tablesAfter (rules s) t)
+    let n = a.needs in
+    (a.number ∷ a.place ∷ n.points ∷ n.polygons ∷ n.vertices ∷ n.names ∷ n.name_bytes ∷ a.skipped ∷ a.details ∷ [], tables_after (rules s) t)
 ";
 
 /// What the specification answers to tables with a lent output: three numbers,
@@ -17,17 +17,13 @@ said s t =
 const OF_MESHES: &str = "said : Tables → List ℕ → List ℕ × List ℕ
 said t out =
     let w : Written = written t (length out) in
-    (w .number ∷ w .place ∷ w .length ∷ [], outputAfter t out)
+    (w.number ∷ w.place ∷ w.length ∷ [], output_after t out)
 ";
 
-const USES: &str = "use Prim.Native.Nat.{ℕ}
-use mathlib.Core.Path.{_≡_, refl}
-use mathlib.Core.List.{List, [], _∷_}
-use lib.ListN.{length}
-use lib.Ieee.{round, toBits}
-use Rattle·format.specs.Mesh.{Tables, lent}
-use Rattle·format.specs.Answer.{Answer}
-use Rattle·format.specs.Written.{Written}
+const USES: &str = "use Rattle.std.specs.Prelude.{ℕ, ◌≡◌, refl, List, [], ◌∷◌, length}
+use Rattle.format.specs.Mesh.{Tables, lent}
+use Rattle.format.specs.Answer.{Answer}
+use Rattle.format.specs.Written.{Written}
 ";
 
 /// Cases in one theorem. What a theorem may unfold is looked up once for all of
@@ -43,7 +39,7 @@ pub fn module(book: &Book, sort: Sort, cases: &[&Case]) -> String {
     let mut text = format!("{USES}{}\n{said}", book.uses);
     for (number, some) in cases.chunks(CASES_A_THEOREM).enumerate() {
         assert!(some.iter().all(|case| case.sort == sort));
-        text.push_str(&theorem(&format!("agrees-{number}"), book, some));
+        text.push_str(&theorem(&format!("agrees_{number}"), book, some));
     }
     text
 }

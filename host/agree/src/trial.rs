@@ -35,7 +35,7 @@ impl Trial {
         cases.sort_by_key(|case| &case.name);
         cases.dedup_by_key(|case| &case.name);
         write_theorems(&folder, &cases).map_err(text)?;
-        let verdict = verdict(&folder, &[])?;
+        let verdict = verdict(&folder, None)?;
         let _ = fs::remove_dir_all(&folder);
         match verdict.proved {
             true => Ok(()),
@@ -50,20 +50,20 @@ impl Trial {
             Seen::Unknown => return Err(String::from("the list does not say by what")),
             Seen::Same(reason) => return Ok(format!("changes no answer: {reason}")),
             Seen::Worked => {
-                let verdict = verdict(&folder, &["format"])?;
+                let verdict = verdict(&folder, Some("format"))?;
                 let seen = by_table(&verdict);
                 (String::from("the worked table"), verdict, seen)
             }
             Seen::Law(law) => {
                 self.add_laws(&folder)?;
-                let verdict = verdict(&folder, &["format"])?;
+                let verdict = verdict(&folder, Some("format"))?;
                 let seen = by_law(&verdict, law);
                 (format!("the law {law}"), verdict, seen)
             }
             Seen::Case(name) => {
                 leave_worked_out(&folder).map_err(text)?;
                 write_theorems(&folder, &[self.case(name)?]).map_err(text)?;
-                let verdict = verdict(&folder, &[])?;
+                let verdict = verdict(&folder, None)?;
                 let seen = by_cases(&verdict).contains(name);
                 (format!("the case {name}"), verdict, seen)
             }
@@ -103,8 +103,8 @@ fn text(error: std::io::Error) -> String {
 
 /// The prover's verdict on a copy. What it refuses in the specification itself,
 /// but for the worked table, is no change of an answer.
-pub fn verdict(folder: &Path, crates: &[&str]) -> Result<Verdict, String> {
-    let verdict = check(folder, crates).map_err(|error| format!("rt: {error}"))?;
+pub fn verdict(folder: &Path, name: Option<&str>) -> Result<Verdict, String> {
+    let verdict = check(folder, name).map_err(|error| format!("rt: {error}"))?;
     if !verdict.proved && verdict.refusals.is_empty() {
         return Err(String::from("the prover failed and refused nothing"));
     }

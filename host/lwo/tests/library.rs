@@ -1,5 +1,6 @@
 //! `host/library`: the library is never that of other sources. It runs in a small repository of
-//! its own, with a program `rt` that only notes that it was called.
+//! its own, with a program `rt` that only notes that it was called. That stands outside of the
+//! checkout, in which `rt ci` takes no other `crates.txt`.
 
 use std::fs::{self, Permissions};
 use std::os::unix::fs::PermissionsExt;
@@ -25,18 +26,21 @@ struct Repository {
 }
 
 impl Repository {
-    /// The crate lwo needs the crate near, which needs far; the crate other is needed by none.
+    /// The static library lwo_c needs the crate lwo, which needs near, which needs far; the crate
+    /// other is needed by none.
     fn new(name: &str) -> Repository {
         let turn = TURN.lock().unwrap_or_else(PoisonError::into_inner);
-        let root = Path::new(env!("CARGO_TARGET_TMPDIR"))
-            .join("library")
-            .join(name);
+        let root = std::env::temp_dir().join(format!("lwo-library-{}-{name}", std::process::id()));
         if root.exists() {
             fs::remove_dir_all(&root).expect("an old folder goes");
         }
         let repository = Repository { root, _turn: turn };
-        repository.put("crates.txt", "far:\nnear: far\nother: near\nlwo: near\n");
+        repository.put(
+            "crates.txt",
+            "far:\nnear: far\nother: near\nlwo: near\nlwo_c staticlib: lwo\n",
+        );
         for source in [
+            "lwo_c/src",
             "lwo/src",
             "near/specs",
             "far/proofs",
@@ -52,7 +56,7 @@ impl Repository {
         );
         repository.put(
             "bin/rt",
-            "#!/bin/sh\necho \"$@\" >>called\nmkdir -p target/staticlib\necho built >target/staticlib/liblwo.a\n",
+            "#!/bin/sh\necho \"${PWD##*/}\" \"$@\" >>../../called\nmkdir -p out\necho built >out/liblwo_c.a\n",
         );
         for program in ["host/library", "bin/rt"] {
             let program = repository.root.join(program);
@@ -81,13 +85,18 @@ impl Repository {
     fn calls(&self) -> usize {
         let done = done(&mut self.run(None));
         let library = self.root.join("target/staticlib/liblwo.a");
+        let content = fs::read_to_string(&library).expect("the library");
+        assert_eq!(content, "built\n");
         assert_eq!(done.printed, format!("{}\n", library.display()), "{done:?}");
         let called = fs::read_to_string(self.root.join("called")).expect("the calls");
-        assert!(
-            called.lines().all(|line| line == "staticlib lwo"),
-            "{called}"
-        );
+        assert!(called.lines().all(|line| line == "lwo_c lib"), "{called}");
         called.lines().count()
+    }
+}
+
+impl Drop for Repository {
+    fn drop(&mut self) {
+        let _ = fs::remove_dir_all(&self.root);
     }
 }
 
@@ -107,11 +116,15 @@ fn it_is_built_anew_when_a_source_or_the_library_changes() {
     assert_eq!(repository.calls(), 1);
     assert_eq!(repository.calls(), 1);
     let changes = [
+        ("crates/lwo_c/src/one", "changed"),
         ("crates/lwo/src/one", "changed"),
         ("crates/near/specs/one", "changed"),
         ("crates/far/proofs/one", "changed"),
         ("crates/far/proofs/more", "new"),
-        ("crates.txt", "far:\nnear: far\nlwo: near far\n"),
+        (
+            "crates.txt",
+            "far:\nnear: far\nlwo: near far\nlwo_c staticlib: lwo\n",
+        ),
         ("target/staticlib/liblwo.a", "another's"),
     ];
     for (number, (name, content)) in (2..).zip(changes) {
@@ -120,16 +133,21 @@ fn it_is_built_anew_when_a_source_or_the_library_changes() {
         assert_eq!(repository.calls(), number, "{name}");
     }
     fs::remove_file(repository.root.join("crates/far/proofs/more")).expect("a file goes");
-    assert_eq!(repository.calls(), 8);
-    fs::remove_file(repository.root.join("target/staticlib/liblwo.a")).expect("a file goes");
     assert_eq!(repository.calls(), 9);
+    fs::remove_file(repository.root.join("target/staticlib/liblwo.a")).expect("a file goes");
+    assert_eq!(repository.calls(), 10);
 }
 
 #[test]
 fn what_it_is_not_made_of_does_not_count() {
     let repository = Repository::new("others");
     assert_eq!(repository.calls(), 1);
-    for name in ["crates/far/must-fail/one", "crates/other/src/one", "notes"] {
+    for name in [
+        "crates/far/must-fail/one",
+        "crates/far/out/one",
+        "crates/other/src/one",
+        "notes",
+    ] {
         repository.put(name, "changed");
         assert_eq!(repository.calls(), 1, "{name}");
     }
@@ -222,7 +240,13 @@ fn another_library_is_taken_as_it_is() {
 fn its_sources_are_named() {
     let repository = Repository::new("sources");
     let done = done(&mut repository.run(Some("--sources")));
-    let named = ["crates.txt", "crates/lwo", "crates/near", "crates/far"];
+    let named = [
+        "crates.txt",
+        "crates/lwo_c",
+        "crates/lwo",
+        "crates/near",
+        "crates/far",
+    ];
     let root = repository.root.canonicalize().expect("a folder");
     let lines: Vec<String> = named
         .iter()
