@@ -1,5 +1,4 @@
 -- A walk over the polygons that puts a line for each.
-use Prim.Native.Nat.{◌-◌}
 use native.Mathlib.Omega.{arith}
 use Rattle.mesh.proofs.PolygonWalk.{counted, ordered, room}
 use Rattle.listing_text.proofs.PrintedPolygons.{begin, room as line_room, turn, end}
