@@ -1,18 +1,18 @@
 // Reads an object file from standard input and prints its listing. Nothing but the three standard streams and the program's own buffers is touched.
 #![tactic(auto)]
 
-use libc::{STDERR_FILENO, STDIN_FILENO, STDOUT_FILENO};
 use listing_input::{Input, read_input};
 use listing_output::{NAME_BYTES, NAMES, OUTPUT, POINTS, POLYGONS, RECORDS, VERTICES, put_output};
+use std::io::Write;
 
 // One byte more than an input may have, so that a longer one is seen.
 const INPUT: usize = 65537;
 
-// What could not be read or written is told on standard error: a program of the kit has no exit status.
-fn main() {
+// What could not be read or written is told on standard error alone: the program's exit status is 0 always.
+fn main(rt: HostRuntime) {
     let mut buffer = [0u8; INPUT];
-    let Input::Bytes(length) = read_input(STDIN_FILENO, &mut buffer) else {
-        io::write_all(STDERR_FILENO, b"listing: standard input cannot be read\n");
+    let Input::Bytes(length) = read_input(&mut rt.stdin(), &mut buffer) else {
+        let _ = eprintln!(rt; "listing: standard input cannot be read");
         return;
     };
     let mut points = [0u32; POINTS];
@@ -33,10 +33,7 @@ fn main() {
         &mut name_bytes,
         &mut records,
     );
-    if !io::write_all(STDOUT_FILENO, &out[..end]) {
-        io::write_all(
-            STDERR_FILENO,
-            b"listing: standard output cannot be written\n",
-        );
+    if rt.stdout().write_all(&out[..end]).is_err() {
+        let _ = eprintln!(rt; "listing: standard output cannot be written");
     }
 }

@@ -1,10 +1,11 @@
-// The input of the listing program: bytes read from a file descriptor into a lent buffer. Nothing but the buffer and the descriptor is touched. The library's
-// `io::read_full` does not tell a read that fails from the end of the input.
+// The input of the listing program: bytes read from a reader into a lent buffer. Nothing but the buffer and the reader is touched. The library's `read_exact`
+// does not tell a read that fails from the end of the input, nor how many bytes there were before that end.
 #![tactic(auto)]
 
-ghost use Rattle.std.specs.Prelude.{◌-◌, ◌≤◌, length};
-ghost use Rattle.io.specs.Counts.{IsPrefixLen};
-ghost use Rattle.listing_input.specs.Input.{InputWithin, InputCounts};
+ghost use Rattle.std.specs.Prelude.{◌≡◌, ◌-◌, ◌≤◌, length, take, drop};
+ghost use Rattle.listing_input.specs.Input.{InputWithin, InputCounts, InputTaken, InputEnds};
+
+use std::io::Read;
 
 // How many bytes were read, or that a read failed.
 #[derive(Clone, Copy)]
@@ -14,24 +15,26 @@ pub enum Input {
 }
 
 // One read into the buffer behind the bytes that it holds already: none at the end of the input.
-fn read_more(fd: i32, buffer: &mut [u8], held: usize) -> Input
+fn read_more<R: Read>(reader: &mut R, buffer: &mut [u8], held: usize) -> Input
     requires { held ≤ length buffer.old }
-    ensures { InputWithin (length buffer.new - held) result }
+    ensures within { InputWithin (length buffer.new - held) result }
+    ensures kept { take held buffer.new ≡ take held buffer.old }
+    ensures taken { InputTaken (R.remaining reader.old) (R.remaining reader.new) (drop held buffer.new) result }
 {
-    let got = libc::read(fd, &mut buffer[held..]);
-    if got < 0 {
-        return Input::Failed;
+    match reader.read(&mut buffer[held..]) {
+        Ok(more) => Input::Bytes(more),
+        Err(_) => Input::Failed,
     }
-    Input::Bytes(io::count(got, &buffer[held..]))
 }
 
-// Reads until the buffer is full or the input ends.
-pub fn read_input(fd: i32, buffer: &mut [u8]) -> Input
-    ensures { InputCounts buffer.new result }
+// Reads until the buffer is full or the input ends. What the buffer holds is the front of what the reader had left, and all of it where the buffer is not full.
+pub fn read_input<R: Read>(reader: &mut R, buffer: &mut [u8]) -> Input
+    ensures counts { InputCounts buffer.new result }
+    ensures taken { InputEnds (R.remaining reader.old) (R.remaining reader.new) buffer.new result }
 {
     let mut held = 0;
     while held < buffer.len() {
-        match read_more(fd, buffer, held) {
+        match read_more(reader, buffer, held) {
             Input::Failed => {
                 return Input::Failed;
             }

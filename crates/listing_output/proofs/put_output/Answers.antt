@@ -7,24 +7,27 @@ use Rattle.listing_output.proofs.PrintedInput.{not_read, was_read, counts}
 use Rattle.listing_output.proofs.put_output.Goals as goal
 
 pub returns-then-input-gt65536 : goal.returns-then-input-gt65536
-returns-then-input-gt65536 c = (not_read c.if-input-gt65536.true c.put_bytes.ensures, counts (wrote_all c.put_bytes.ensures) (search rules))
+returns-then-input-gt65536 c = record {
+  prints_input = not_read c.if-input-gt65536.true c.put_bytes.ensures;
+  prefix_len = counts (wrote_all c.put_bytes.ensures) (search rules);
+}
 
 pub put_listing-requires : goal.put_listing-requires
 put_listing-requires c = record { counts_held = (after_reading c.read-answer.ensures).counts_held; room = search rules }
 
 pub returns : goal.returns
-returns c =
-    let listed =
-    wrote_file c.read-answer.ensures
-    (record {
-      points = c.read-arg-1.given.0.1;
-      polygons = c.read-arg-2-1.given.0.1;
-      vertices = c.read-arg-3-1.given.0.1;
-      names = c.read-arg-4-1.given.0.1;
-      name_bytes = c.read-arg-5-1.given.0.1;
-      records = c.read-arg-6-1.given.0.1;
-    })
-    c.put_listing.ensures.wrote in (
-      was_read c.requires c.if-input-gt65536.false listed,
-      counts c.put_listing.ensures (put_listing-requires c c.put_listing.lifetimes).room,
-    )
+returns c = record {
+  prints_input =
+      was_read c.requires c.if-input-gt65536.false
+      (wrote_file c.read-answer.ensures
+       (record {
+         points = search rules;
+         polygons = search rules;
+         vertices = search rules;
+         names = search rules;
+         name_bytes = search rules;
+         records = search rules;
+       })
+       c.put_listing.ensures.wrote);
+  prefix_len = counts c.put_listing.ensures (search rules);
+}

@@ -7,10 +7,10 @@ use Rattle.listing_text.proofs.numbers.put_decimal.Goals as goal
 pub put_bytes-requires : goal.put_bytes-requires
 put_bytes-requires c =
     let d = c.decimal-count.ensures in
-    omega (arith, d.0.1, few_digits _ _ (omega arith) d.1.0, c.requires)
+    omega (arith, d.in_bounds.1, few_digits _ _ (omega arith) d.len, c.requires)
 
 pub returns : goal.returns
 returns c =
     let d = c.decimal-count.ensures in
     let w = c.put_bytes.ensures in
-    record { wrote = rw (d.1.1 ∙ decimal_is _ _ d.1.0) at w; few = omega (arith, w.next_is, d.0.1, few_digits _ _ (omega arith) d.1.0) }
+    record { wrote = rw (d.digits ∙ decimal_is _ _ d.len) at w; few = omega (arith, w.next_is, d.in_bounds.1, few_digits _ _ (omega arith) d.len) }
