@@ -1,5 +1,6 @@
 -- The demands decide a call: the rules refuse the file, or give a mesh with room or without; the tables are no mesh, or its file is too long, too long for the
 -- output, or fits. In each case one of the statements has the whole answer, and one the whole of what is lent.
+use Rattle.std.specs.Prelude.{if◌then◌else◌}
 use Prim.Native.Nat.{ℕ}
 use mathlib.Core.Path.{◌≡◌, refl, sym, ap, ◌∙◌}
 use mathlib.Core.List.{List}
@@ -9,7 +10,7 @@ use native.Mathlib.Omega.{arith}
 use lib.Dec.{ltb, eqb}
 use lib.ListN.{length}
 use borrow.Author.Tests.{ne_eqb, ltb-true, ltb-false}
-use Rattle.format.specs.Bytes.{if◌then◌else◌, byte, all}
+use Rattle.format.specs.Bytes.{byte, all}
 use Rattle.format.specs.Limits.{file_limit}
 use Rattle.format.specs.Refusals.{is_of_reader, no_room_number, not_mesh_number, too_long_number}
 use Rattle.format.specs.Mesh.{Tables, needs}

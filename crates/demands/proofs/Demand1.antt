@@ -1,4 +1,5 @@
 -- Demand 1: the answer goes by what the rules say of the file, or by the writer's three tests in their order; each case is one of the table's rows.
+use Rattle.std.specs.Prelude.{if◌then◌else◌}
 use Prim.Native.Nat.{ℕ}
 use mathlib.Core.Path.{◌≡◌, refl, sym, ap, ◌∙◌}
 use mathlib.Core.List.{List}
@@ -9,7 +10,6 @@ use lib.ListN.{length}
 use borrow.Author.Tests.{ltb-true, ltb-false}
 use Rattle.format.specs.declared.Kind.{Kind}
 use Rattle.format.specs.declared.Fault.{Fault}
-use Rattle.format.specs.Bytes.{if◌then◌else◌}
 use Rattle.format.specs.Limits.{file_limit}
 use Rattle.format.specs.Refusals.{no_room_number, not_mesh_number, too_long_number}
 use Rattle.format.specs.Items.{Verdict, fault, ◌and_then◌}

@@ -1,4 +1,5 @@
 -- Demand 2: acceptance goes by the rules and the room, and the round trip of `laws` brings back what was written.
+use Rattle.std.specs.Prelude.{if◌then◌else◌}
 use Prim.Native.Nat.{ℕ, ◌*◌, ◌≤◌}
 use mathlib.Core.Path.{◌≡◌, refl, sym, ap, ◌∙◌, subst}
 use mathlib.Core.List.{List, map, append-nil}
@@ -9,7 +10,7 @@ use lib.Dec.{ltb}
 use lib.ListN.{length, take, drop, length-map, drop_of_length-le}
 use lib.Seq.{take_at}
 use borrow.Author.Tests.{le-ltb}
-use Rattle.format.specs.Bytes.{if◌then◌else◌, joined}
+use Rattle.format.specs.Bytes.{joined}
 use Rattle.format.specs.Limits.{file_limit, entry_limit}
 use Rattle.format.specs.Refusals.{is_of_reader, no_room_number, not_mesh_number, too_long_number}
 use Rattle.format.specs.Mesh.{Mesh, Tables, tables, needs, point_words, point_size, polygon_words, polygon_size, surface_words, record_size}

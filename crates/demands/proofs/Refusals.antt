@@ -1,4 +1,5 @@
 -- A file that the rules refuse: its first twelve bytes are judged by cases, and its chunks by the walk over them.
+use Rattle.std.specs.Prelude.{if◌then◌else◌}
 use Prim.Native.Nat.{ℕ, ◌+◌}
 use mathlib.Core.Path.{◌≡◌, refl, sym, ◌∙◌}
 use mathlib.Core.List.{List}
@@ -9,7 +10,7 @@ use Rattle.format.specs.declared.Kind.{Kind}
 use Rattle.format.specs.declared.Kind.TheVariants.{LWOB, LWO2}
 use Rattle.format.specs.declared.Fault.{Fault}
 use Rattle.format.specs.declared.Fault.TheVariants.{FileTooLong, NotForm, FormLength}
-use Rattle.format.specs.Bytes.{if◌then◌else◌, ◌is◌, between, number}
+use Rattle.format.specs.Bytes.{◌is◌, between, number}
 use Rattle.format.specs.Limits.{file_limit}
 use Rattle.format.specs.Refusals.{number_of, is_of_chunk, is_of_reader}
 use Rattle.format.specs.Items.{Verdict, fine, fault, ◌and_then◌}

@@ -1,9 +1,8 @@
 -- Where a file's chunks stand, which of them is at fault, and where in it the fault lies.
-use Rattle.std.specs.Prelude.{ℕ, ◌+◌, ◌≤◌, ◌<◌, ◌≡◌, List, true, false, length, drop}
+use Rattle.std.specs.Prelude.{ℕ, ◌+◌, ◌≤◌, ◌<◌, ◌≡◌, List, true, false, length, drop, if◌then◌else◌}
 use Rattle.format.specs.declared.Kind.{Kind}
 use Rattle.format.specs.declared.Fault.{Fault}
 use Rattle.format.specs.declared.Fault.TheVariants.{BadHeader}
-use Rattle.format.specs.Bytes.{if◌then◌else◌}
 use Rattle.format.specs.Refusals.{number_of, place_of}
 use Rattle.format.specs.Items.{Verdict, fine, fault, ◌and_then◌, Got}
 use Rattle.format.specs.Chunks.{Chunk, size_of, length_of, well_formed, chunk_of}

@@ -1,11 +1,12 @@
 -- A name amongst others: they may be taken in two parts, or by their numbers.
+use Rattle.std.specs.Prelude.{if◌then◌else◌}
 use Prim.Native.Nat.{ℕ, zero, suc, ◌<◌}
 use mathlib.Core.Path.{◌≡◌, refl, sym, ◌∙◌}
 use mathlib.Core.List.{List, [], ◌∷◌, ◌++◌}
 use mathlib.Core.Bool.{Bool, true, false, ◌||◌}
 use native.Mathlib.Omega.{arith}
 use lib.ListN.{length, get_or}
-use Rattle.format.specs.Bytes.{if◌then◌else◌, same, amongst}
+use Rattle.format.specs.Bytes.{same, amongst}
 use Rattle.format.specs.Mesh.{Name}
 use Rattle.format.proofs.SameLists.{same_eq, same_refl}
 

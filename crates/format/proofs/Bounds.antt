@@ -1,5 +1,6 @@
 -- The bounds of document 01 by its own numbers, over lists of any content, since no case that is computed is so long: the test of a length comes to one
 -- comparison with the number.
+use Rattle.std.specs.Prelude.{if◌then◌else◌}
 use Prim.Native.Nat.{ℕ, ◌+◌, ◌*◌, ◌/◌, ◌%◌, ◌≤◌, ◌<◌}
 use mathlib.Core.Path.{◌≡◌, refl}
 use mathlib.Core.List.{List, [], ◌∷◌}
@@ -12,7 +13,7 @@ use borrow.Author.Tests.{lt-ltb, ltb-true, le-leb, leb-true}
 use Rattle.format.specs.declared.Kind.{Kind}
 use Rattle.format.specs.declared.Kind.TheVariants.{LWOB}
 use Rattle.format.specs.declared.Fault.TheVariants.{NotForm, LongIndex}
-use Rattle.format.specs.Bytes.{if◌then◌else◌, ◌is◌, between, number, every, all}
+use Rattle.format.specs.Bytes.{◌is◌, between, number, every, all}
 use Rattle.format.specs.Limits.{file_limit, lwo2_vertex_limit}
 use Rattle.format.specs.Refusals.{number_of}
 use Rattle.format.specs.Items.{Verdict, fine, fault, ◌and_then◌, ◌>>=◌, ◌or◌unless◌, item, uint, vx}

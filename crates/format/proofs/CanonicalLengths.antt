@@ -1,4 +1,5 @@
 -- How long the items of a canonical file are: each is as many bytes as its definition puts, whatever they say.
+use Rattle.std.specs.Prelude.{if◌then◌else◌}
 use Prim.Native.Nat.{ℕ, zero, suc, ◌+◌, ◌-◌, ◌/◌, ◌%◌, ◌≤◌, ◌<◌}
 use Prim.Native.String.{String}
 use mathlib.Core.Path.{◌≡◌, refl, ◌∙◌}
@@ -8,7 +9,7 @@ use native.Mathlib.Omega.{arith}
 use lib.Dec.{ltb, eqb}
 use lib.ListN.{length, replicate, length-append, length-replicate}
 use borrow.Author.Tests.{lt-ltb, le-ltb}
-use Rattle.format.specs.Bytes.{if◌then◌else◌, spelt, joined}
+use Rattle.format.specs.Bytes.{spelt, joined}
 use Rattle.format.specs.Items.{first_long, string_size}
 use Rattle.format.specs.Mesh.{Point, FACE, Name}
 use Rattle.format.specs.Canonical.{bytes, vx_bytes, string_bytes, point_bytes, type_of, form_bytes}

@@ -1,10 +1,11 @@
 -- What is known to be fine, taken apart: the second pass reads again what the first one has judged.
+use Rattle.std.specs.Prelude.{if◌then◌else◌}
 use mathlib.Core.Path.{◌≡◌, refl, sym, ap, ◌∙◌}
 use mathlib.Core.List.{List, ◌∷◌}
 use mathlib.Core.Bool.{Bool, true, false}
 use Prim.Native.Nat.{ℕ, ◌-◌, ◌<◌}
 use lib.ListN.{length, drop}
-use Rattle.format.specs.Bytes.{if◌then◌else◌, empty}
+use Rattle.format.specs.Bytes.{empty}
 use Rattle.format.specs.declared.Fault.{Fault}
 use Rattle.format.specs.declared.Fault.TheVariants.{WrongLength}
 use Rattle.format.specs.Items.{Verdict, fine, fault, Got, ◌and_then◌, Reader, ◌>>=◌, give, ◌or◌unless◌, up_to, whole}

@@ -1,5 +1,6 @@
 -- The table of listed tags is walked once for all who go by a chunk's tag; and a tag is unlisted exactly when its chunks are skipped, since no row of the
 -- table skips its chunks.
+use Rattle.std.specs.Prelude.{if◌then◌else◌}
 use Prim.Native.Nat.{ℕ}
 use mathlib.Core.Path.{◌≡◌, refl, sym, ap, ◌∙◌}
 use mathlib.Core.List.{List, [], ◌∷◌}
@@ -8,7 +9,7 @@ use mathlib.Core.Logic.{◌↔◌}
 use borrow.Author.Tests.{not-true}
 use Rattle.format.specs.declared.Kind.{Kind}
 use Rattle.format.specs.declared.Kind.TheVariants.{LWOB, LWO2}
-use Rattle.format.specs.Bytes.{if◌then◌else◌, ◌is◌, number, all, sum, joined}
+use Rattle.format.specs.Bytes.{◌is◌, number, all, sum, joined}
 use Rattle.format.specs.Items.{Verdict, fine, fault, ◌and_then◌, ◌>>=◌, ◌or◌unless◌, whole, up_to, many, item, uint, string, to_zero}
 use Rattle.format.specs.Chunks.{reader_of_length}
 use Rattle.format.specs.Bodies.{Part, point_list, name_list, polygon_list, tagging, surface, layer, skipped_chunk, whole_points, points_body, names_after, names_body, layer_body, faces_body, patches_body, polygons_body, tagging_body, surface_strings, surface_body}

@@ -1,4 +1,5 @@
 -- Which part a chunk is that was judged fine, by its tag: each body ends by giving one sort of part, and each tag has one body.
+use Rattle.std.specs.Prelude.{if◌then◌else◌}
 use mathlib.Core.Path.{◌≡◌, refl, ap, subst}
 use mathlib.Core.List.{List, [], ◌∷◌}
 use mathlib.Core.Bool.{Bool, true, false, not, and-eq-true_iff}
@@ -9,7 +10,7 @@ use borrow.Author.Tests.{eqb-true}
 use Rattle.format.specs.declared.Kind.{Kind}
 use Rattle.format.specs.declared.Kind.TheVariants.{LWOB, LWO2}
 use Rattle.format.specs.declared.Fault.TheVariants.{OutOfOrder, WrongLength}
-use Rattle.format.specs.Bytes.{if◌then◌else◌, ◌is◌, number, all, empty}
+use Rattle.format.specs.Bytes.{◌is◌, number, all, empty}
 use Rattle.format.specs.Items.{Verdict, fine, fault, Got, Reader, ◌>>=◌, give, whole, up_to, many}
 use Rattle.format.specs.Chunks.{header_of, reader_of_length}
 use Rattle.format.specs.Mesh.{Point, Polygon, Name}

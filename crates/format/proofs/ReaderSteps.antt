@@ -1,5 +1,6 @@
 -- What readers say at a place of a body, one after another, and of a whole body. Each answer of the code is shown by an expression that follows its path
 -- through the reader's `do`.
+use Rattle.std.specs.Prelude.{if◌then◌else◌}
 use mathlib.Core.Path.{◌≡◌, refl, sym, ap, ◌∙◌}
 use mathlib.Core.List.{List}
 use mathlib.Core.Bool.{Bool, true, false}
@@ -7,7 +8,7 @@ use Prim.Native.Nat.{ℕ, ◌+◌, ◌-◌, ◌≤◌, ◌<◌}
 use native.Mathlib.Omega.{arith}
 use lib.ListN.{length, drop, length-drop, drop_of_length-le}
 use lib.Seq.{drop-cons, drop-length}
-use Rattle.format.specs.Bytes.{if◌then◌else◌, empty}
+use Rattle.format.specs.Bytes.{empty}
 use Rattle.format.specs.declared.Fault.{Fault}
 use Rattle.format.specs.declared.Fault.TheVariants.{WrongLength}
 use Rattle.format.specs.Items.{Verdict, fine, fault, Got, ◌and_then◌, Reader, ◌>>=◌, give, ◌or◌unless◌, whole}

@@ -1,4 +1,5 @@
 -- A chunk that was judged fine has a byte at least for each thing that it adds to the mesh and the counts, and the chunks of a file do not overlap.
+use Rattle.std.specs.Prelude.{if◌then◌else◌}
 use mathlib.Core.Path.{◌≡◌, refl, sym, ◌∙◌}
 use mathlib.Core.List.{List, [], ◌∷◌, ◌++◌, map}
 use mathlib.Core.Bool.{Bool, true, false, ◌&&◌}
@@ -11,7 +12,7 @@ use borrow.Author.Tests.{leb-true}
 use Rattle.format.specs.declared.Kind.{Kind}
 use Rattle.format.specs.declared.Fault.{Fault}
 use Rattle.format.specs.declared.Fault.TheVariants.{WrongLength, ItemCut, StringOpen}
-use Rattle.format.specs.Bytes.{if◌then◌else◌, all, sum, negative}
+use Rattle.format.specs.Bytes.{all, sum, negative}
 use Rattle.format.specs.Items.{Verdict, fine, fault, Got, Reader, ◌>>=◌, ◌and_then◌, give, ◌or◌unless◌, ◌followed_by◌, times, up_to, many, item, uint, i2, float, vx, long, string, to_zero, string_size}
 use Rattle.format.specs.Chunks.{header_of, reader_of_length, Chunk, chunk_of, Chunks, finished, broken, chunk, link, split, chunks}
 use Rattle.format.specs.Mesh.{Name, Polygon}

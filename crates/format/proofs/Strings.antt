@@ -1,4 +1,5 @@
 -- A string at a place: a name up to its first zero byte, and one more zero byte where name and terminator together are odd.
+use Rattle.std.specs.Prelude.{if◌then◌else◌}
 use mathlib.Core.Path.{◌≡◌, refl, sym, ap, ◌∙◌}
 use mathlib.Core.List.{List, [], ◌∷◌}
 use mathlib.Core.Bool.{Bool, true, false, ◌&&◌}
@@ -9,7 +10,7 @@ use lib.ListN.{length, get_or, take, drop, length-drop, length-take}
 use lib.Seq.{drop-cons, drop-drop, get_or-drop}
 use borrow.Author.Tests.{ne_eqb, le-leb, lt-leb, eqb-true}
 use Rattle.format.specs.declared.Fault.TheVariants.{StringOpen}
-use Rattle.format.specs.Bytes.{if◌then◌else◌, all}
+use Rattle.format.specs.Bytes.{all}
 use Rattle.format.specs.Items.{fault, to_zero, string_size, string}
 use Rattle.format.specs.Promises.{ReadsAt, name_size, got}
 use Rattle.format.proofs.ReaderSteps.{exact}

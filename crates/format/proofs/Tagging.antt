@@ -1,11 +1,12 @@
 -- What a tag keeps of one polygon, the tags of a PTAG keep of all: each changes one number of one polygon. New point numbers keep how many there are.
+use Rattle.std.specs.Prelude.{if◌then◌else◌}
 use Prim.Native.Nat.{ℕ, zero, suc, ◌+◌}
 use mathlib.Core.Path.{◌≡◌, refl, sym, ap, ◌∙◌}
 use mathlib.Core.List.{List, [], ◌∷◌, map}
 use mathlib.Core.Bool.{Bool, true, false}
 use native.Mathlib.Omega.{arith}
 use lib.ListN.{length, length-map}
-use Rattle.format.specs.Bytes.{if◌then◌else◌, ◌is◌, sum}
+use Rattle.format.specs.Bytes.{◌is◌, sum}
 use Rattle.format.specs.Mesh.{Polygon, polygon_of}
 use Rattle.format.specs.Rules.{with_tag, retag, tagged, from}
 

@@ -1,4 +1,5 @@
 -- The chunks of some bytes: the one that stands at their front, and those of the rest.
+use Rattle.std.specs.Prelude.{if◌then◌else◌}
 use mathlib.Core.Path.{◌≡◌, refl, ap, subst}
 use mathlib.Core.List.{List, [], ◌∷◌}
 use mathlib.Core.Bool.{Bool, true, false, ◌&&◌, and-eq-true_iff}
@@ -9,7 +10,7 @@ use lib.ListN.{length, take, drop, length-take, length-drop}
 use borrow.Author.Tests.{leb-true}
 use Rattle.format.specs.declared.Fault.{Fault}
 use Rattle.format.specs.declared.Fault.TheVariants.{BadHeader}
-use Rattle.format.specs.Bytes.{if◌then◌else◌, between, number, every, all}
+use Rattle.format.specs.Bytes.{between, number, every, all}
 use Rattle.format.specs.Items.{Verdict, fine, fault, Got}
 use Rattle.format.specs.Chunks.{Chunk, size_of, length_of, well_formed, chunk_of, Chunks, finished, broken, chunk, link, split, chunks}
 use Rattle.format.proofs.Facts.{impossible}

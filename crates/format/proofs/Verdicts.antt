@@ -1,9 +1,9 @@
 -- Verdicts: what a verdict that is fine, or a fault, was made of.
+use Rattle.std.specs.Prelude.{if◌then◌else◌}
 use mathlib.Core.Path.{◌≡◌, refl}
 use mathlib.Core.Bool.{Bool, true, false}
 use Prim.Native.Nat.{ℕ}
 use Rattle.format.specs.declared.Fault.{Fault}
-use Rattle.format.specs.Bytes.{if◌then◌else◌}
 use Rattle.format.specs.Items.{Verdict, fine, fault, ◌and_then◌}
 use Rattle.format.proofs.Facts.{impossible}
 

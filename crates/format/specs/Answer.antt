@@ -1,6 +1,6 @@
 -- The reader's answer, and what the lent tables hold after it.
-use Rattle.std.specs.Prelude.{ℕ, ◌/◌, List, [], ◌∷◌, ◌++◌, ◌≡◌, Bool, true, length, drop, leb}
-use Rattle.format.specs.Bytes.{if◌then◌else◌, byte, every, all}
+use Rattle.std.specs.Prelude.{ℕ, ◌/◌, List, [], ◌∷◌, ◌++◌, ◌≡◌, Bool, true, length, drop, leb, if◌then◌else◌}
+use Rattle.format.specs.Bytes.{byte, every, all}
 use Rattle.format.specs.Refusals.{no_room_number}
 use Rattle.format.specs.Mesh.{point_size, polygon_size, record_size, Tables, tables, Needs, needs}
 use Rattle.format.specs.Rules.{Outcome, refused, gives, rules}

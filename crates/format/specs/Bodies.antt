@@ -1,10 +1,10 @@
 -- Bodies: what each listed chunk holds, item by item, and what it contributes to the mesh.
-use Rattle.std.specs.Prelude.{ℕ, zero, suc, ◌/◌, ◌%◌, List, [], ◌∷◌, ◌++◌, map, Bool, not, ◌&&◌, ◌||◌, length, leb, ltb, eqb, ℤ}
+use Rattle.std.specs.Prelude.{ℕ, zero, suc, ◌/◌, ◌%◌, List, [], ◌∷◌, ◌++◌, map, Bool, not, ◌&&◌, ◌||◌, length, leb, ltb, eqb, ℤ, if◌then◌else◌}
 use Rattle.format.specs.declared.Kind.{Kind}
 use Rattle.format.specs.declared.Kind.TheVariants.{LWOB, LWO2}
 use Rattle.format.specs.declared.Container.TheVariants.{Surf}
 use Rattle.format.specs.declared.Fault.TheVariants.{VertexCount, VertexNumber, SurfaceNumber, PolygonNumber, PolygonType, BadName, DetailSurface}
-use Rattle.format.specs.Bytes.{if◌then◌else◌, ◌is◌, between, absolute, negative, sum, amongst}
+use Rattle.format.specs.Bytes.{◌is◌, between, absolute, negative, sum, amongst}
 use Rattle.format.specs.Limits.{name_limit, lwob_vertex_limit, lwob_point_limit}
 use Rattle.format.specs.Items.{Reader, ◌>>=◌, give, ◌or◌unless◌, times, up_to, many, u2, u4, i2, float, vx, string}
 use Rattle.format.specs.Chunks.{reader_of_length, unjudged}

@@ -1,7 +1,7 @@
 -- "Canonical LWO2": the one file that a mesh is written as.
-use Rattle.std.specs.Prelude.{ℕ, zero, suc, ◌+◌, ◌-◌, ◌/◌, ◌%◌, List, [], ◌∷◌, ◌++◌, map, length, replicate, ltb, eqb}
+use Rattle.std.specs.Prelude.{ℕ, zero, suc, ◌+◌, ◌-◌, ◌/◌, ◌%◌, List, [], ◌∷◌, ◌++◌, map, length, replicate, ltb, eqb, if◌then◌else◌}
 use Prim.Native.String.{String}
-use Rattle.format.specs.Bytes.{if◌then◌else◌, spelt, joined}
+use Rattle.format.specs.Bytes.{spelt, joined}
 use Rattle.format.specs.Items.{first_long, string_size}
 use Rattle.format.specs.Mesh.{Point, Polygon, FACE, Surface, Name, Mesh, point_words}
 

@@ -1,7 +1,7 @@
 -- Chunks: "a tag, a U4 length, the body, and a zero pad byte if the length is odd". "A sub-chunk has a U2 length."
-use Rattle.std.specs.Prelude.{ℕ, zero, suc, ◌+◌, ◌-◌, ◌%◌, List, [], ◌∷◌, Bool, length, take, drop, leb, eqb}
+use Rattle.std.specs.Prelude.{ℕ, zero, suc, ◌+◌, ◌-◌, ◌%◌, List, [], ◌∷◌, Bool, length, take, drop, leb, eqb, if◌then◌else◌}
 use Rattle.format.specs.declared.Fault.TheVariants.{BadHeader, WrongLength}
-use Rattle.format.specs.Bytes.{if◌then◌else◌, between, number, every, all}
+use Rattle.format.specs.Bytes.{between, number, every, all}
 use Rattle.format.specs.Items.{Verdict, fine, fault, ◌and_then◌, Got, Reader, give, whole}
 
 pub record Chunk : Type 0 where

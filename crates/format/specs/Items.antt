@@ -1,8 +1,8 @@
 -- Items: how a body is read, and a reader for each kind of item that a body holds.
-use Rattle.std.specs.Prelude.{ℕ, zero, suc, ◌+◌, ◌-◌, ◌%◌, ◌^◌, List, [], ◌∷◌, Bool, false, ◌&&◌, length, take, drop, leb, eqb, ℤ}
+use Rattle.std.specs.Prelude.{ℕ, zero, suc, ◌+◌, ◌-◌, ◌%◌, ◌^◌, List, [], ◌∷◌, Bool, false, ◌&&◌, length, take, drop, leb, eqb, ℤ, if◌then◌else◌}
 use Rattle.format.specs.declared.Fault.{Fault}
 use Rattle.format.specs.declared.Fault.TheVariants.{WrongLength, ItemCut, StringOpen, LongIndex, NotFinite}
-use Rattle.format.specs.Bytes.{if◌then◌else◌, number, signed, finite, all, empty}
+use Rattle.format.specs.Bytes.{number, signed, finite, all, empty}
 
 -- ---- readers
 

@@ -1,12 +1,12 @@
 -- The rules: a file's chunks are judged in file order, and what they contribute makes the mesh.
-use Rattle.std.specs.Prelude.{ℕ, zero, suc, ◌+◌, Bool, true, false, not, ◌&&◌, ◌||◌, length, take, drop, ltb, eqb}
+use Rattle.std.specs.Prelude.{ℕ, zero, suc, ◌+◌, Bool, true, false, not, ◌&&◌, ◌||◌, length, take, drop, ltb, eqb, if◌then◌else◌}
 use Prim.Native.String.{String}
 use mathlib.Core.List.{List, [], ◌∷◌, ◌++◌, map, foldl}
 use Rattle.std.proofs.Math.Option.{Option, none, some}
 use Rattle.format.specs.declared.Kind.{Kind}
 use Rattle.format.specs.declared.Kind.TheVariants.{LWOB, LWO2}
 use Rattle.format.specs.declared.Fault.TheVariants.{FileTooLong, NotForm, FormLength, BadHeader, OutOfOrder}
-use Rattle.format.specs.Bytes.{if◌then◌else◌, ◌is◌, number, all, sum, joined, same}
+use Rattle.format.specs.Bytes.{◌is◌, number, all, sum, joined, same}
 use Rattle.format.specs.Limits.{file_limit}
 use Rattle.format.specs.Refusals.{number_of, place_of}
 use Rattle.format.specs.Items.{Verdict, fine, fault, ◌and_then◌ as ◌>>=◌, Reader, whole}

@@ -1,12 +1,12 @@
 -- Surfaces: the sub-chunks of a SURF, by kind of file and level, and the record that their values make.
-use Rattle.std.specs.Prelude.{ℕ, zero, suc, ◌+◌, ◌/◌, ◌%◌, ◌^◌, List, [], ◌∷◌, map, Bool, ◌||◌, take, get_or, eqb}
+use Rattle.std.specs.Prelude.{ℕ, zero, suc, ◌+◌, ◌/◌, ◌%◌, ◌^◌, List, [], ◌∷◌, map, Bool, ◌||◌, take, get_or, eqb, if◌then◌else◌}
 use Prim.Native.String.{String}
 use Rattle.format.specs.declared.Kind.{Kind}
 use Rattle.format.specs.declared.Kind.TheVariants.{LWOB, LWO2}
 use Rattle.format.specs.declared.Container.{Container}
 use Rattle.format.specs.declared.Container.TheVariants.{Surf, Blok, Attributes}
 use Rattle.format.specs.declared.Fault.TheVariants.{SurfaceValue}
-use Rattle.format.specs.Bytes.{if◌then◌else◌, ◌is◌, over255, over256, f32_one, empty, joined}
+use Rattle.format.specs.Bytes.{◌is◌, over255, over256, f32_one, empty, joined}
 use Rattle.format.specs.Items.{fault, Reader, ◌>>=◌, give, ◌or◌unless◌, many, item, u2, i2, float, vx, string}
 use Rattle.format.specs.Chunks.{header_of, sub, fixed, unjudged}
 use Rattle.format.specs.Mesh.{Surface, missing_colour, missing}

@@ -1,8 +1,8 @@
 -- "Worked by hand": "Proved as one table with a single statement". Every case is computed.
-use Rattle.std.specs.Prelude.{ℕ, ◌+◌, ◌-◌, ◌*◌, ◌≡◌, refl, Bool, true, List, [], ◌∷◌, ◌++◌, map, length, leb}
+use Rattle.std.specs.Prelude.{ℕ, ◌+◌, ◌-◌, ◌*◌, ◌≡◌, refl, Bool, true, List, [], ◌∷◌, ◌++◌, map, length, leb, if◌then◌else◌}
 use Prim.Native.String.{String}
 use Rattle.format.specs.declared.Kind.TheVariants.{LWOB}
-use Rattle.format.specs.Bytes.{if◌then◌else◌, absolute, negative, spelt, number, tag_number, finite, over255, over256, every, all, sum, joined, same, amongst}
+use Rattle.format.specs.Bytes.{absolute, negative, spelt, number, tag_number, finite, over255, over256, every, all, sum, joined, same, amongst}
 use Rattle.format.specs.Refusals.{number_of}
 use Rattle.format.specs.Items.{Verdict, fine, fault, Got, ◌and_then◌, ◌>>=◌, ◌or◌unless◌, whole, times, up_to, many, item, uint, i2, float, vx, to_zero, string}
 use Rattle.format.specs.Chunks.{size_of, length_of, well_formed, chunk_of, reader_of_length, link, split, chunks, sub, unjudged}

@@ -1,6 +1,6 @@
 -- Which tables are a mesh, the writer's answer, and what the lent output holds after it.
-use Rattle.std.specs.Prelude.{ℕ, ◌/◌, ◌%◌, List, [], ◌∷◌, ◌++◌, map, ◌≡◌, Bool, true, not, ◌&&◌, ◌||◌, length, take, drop, replicate, leb, ltb, eqb}
-use Rattle.format.specs.Bytes.{if◌then◌else◌, between, finite, every, all, sum, same}
+use Rattle.std.specs.Prelude.{ℕ, ◌/◌, ◌%◌, List, [], ◌∷◌, ◌++◌, map, ◌≡◌, Bool, true, not, ◌&&◌, ◌||◌, length, take, drop, replicate, leb, ltb, eqb, if◌then◌else◌}
+use Rattle.format.specs.Bytes.{between, finite, every, all, sum, same}
 use Rattle.format.specs.Limits.{file_limit, lwo2_vertex_limit, entry_limit, tag_limit}
 use Rattle.format.specs.Refusals.{no_room_number, not_mesh_number, too_long_number}
 use Rattle.format.specs.Mesh.{Polygon, FACE, PATCH, Surface, Name, Mesh, missing, Tables, point_words, levels, surface_words, point_size, polygon_size, record_size, word, point_from, polygon_from, surface_from}

@@ -1,4 +1,5 @@
 -- The names: each is a slice of the joined bytes, and is compared with those before it.
+use Rattle.std.specs.Prelude.{if◌then◌else◌}
 use Prim.Native.Nat.{ℕ, ◌+◌, ◌-◌, ◌<◌, ◌≤◌}
 use mathlib.Core.Path.{◌≡◌, refl, sym, ◌∙◌}
 use mathlib.Core.List.{List, [], ◌∷◌, ◌++◌}
@@ -7,7 +8,7 @@ use native.Mathlib.Numerals.{add-one}
 use native.Mathlib.Omega.{arith}
 use lib.ListN.{length, get_or, take, drop}
 use lib.Seq.{take-suc}
-use Rattle.format.specs.Bytes.{if◌then◌else◌, all, sum, same, amongst}
+use Rattle.format.specs.Bytes.{all, sum, same, amongst}
 use Rattle.format.specs.Mesh.{Name}
 use Rattle.format.specs.Written.{pieces, good_names}
 use Rattle.good_names.specs.Names.{own_name, good_name}

@@ -1,4 +1,5 @@
 -- What is accepted is a mesh: each chunk of bytes contributes what is good, the numbers of points and names only grow, and names come once.
+use Rattle.std.specs.Prelude.{if◌then◌else◌}
 use Prim.Native.Nat.{ℕ, zero, suc, ◌+◌, ◌≤◌}
 use Prim.Native.String.{String}
 use mathlib.Core.Path.{◌≡◌, refl, sym, ap, ◌∙◌}
@@ -12,7 +13,7 @@ use borrow.Author.Tests.{leb-true, lt-ltb, ltb-true, eq-eqb, eqb-true, not-true}
 use Rattle.format.specs.declared.Kind.{Kind}
 use Rattle.format.specs.declared.Kind.TheVariants.{LWOB, LWO2}
 use Rattle.format.specs.declared.Fault.TheVariants.{BadHeader}
-use Rattle.format.specs.Bytes.{if◌then◌else◌, ◌is◌, spelt, number, f32_one, byte, between, finite, every, all, joined, same}
+use Rattle.format.specs.Bytes.{◌is◌, spelt, number, f32_one, byte, between, finite, every, all, joined, same}
 use Rattle.format.specs.Limits.{tag_limit}
 use Rattle.format.specs.Items.{Verdict, fine, fault, Got}
 use Rattle.format.specs.Chunks.{Chunk, size_of, length_of, well_formed, chunk_of, Chunks, link, split, chunks}

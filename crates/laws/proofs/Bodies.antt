@@ -1,4 +1,5 @@
 -- The bodies of the chunks of a canonical file, each read back as what it was written from.
+use Rattle.std.specs.Prelude.{if◌then◌else◌}
 use Prim.Native.Nat.{ℕ, zero, suc, ◌+◌, ◌-◌, ◌%◌, ◌^◌, ◌≤◌, ◌<◌}
 use Prim.Native.String.{String}
 use mathlib.Core.Path.{◌≡◌, refl, sym}
@@ -9,7 +10,7 @@ use lib.Dec.{leb, ltb, eqb}
 use lib.ListN.{length, take, drop, length-append}
 use borrow.Author.Tests.{le-leb, lt-ltb, eq-eqb, ltb-true, eqb-true, eqb-false}
 use Rattle.format.specs.declared.Fault.TheVariants.{VertexCount, VertexNumber, SurfaceNumber, PolygonNumber, PolygonType, BadName, SurfaceValue}
-use Rattle.format.specs.Bytes.{if◌then◌else◌, number, spelt, finite, all, joined}
+use Rattle.format.specs.Bytes.{number, spelt, finite, all, joined}
 use Rattle.format.specs.Items.{Reader, ◌>>=◌, give, ◌or◌unless◌, u2, u4, uint, vx}
 use Rattle.format.specs.declared.Kind.TheVariants.{LWO2}
 use Rattle.format.specs.declared.Container.TheVariants.{Surf}

@@ -1,5 +1,6 @@
 -- Chunks and sub-chunks: bytes that are one whole chunk are read as that chunk, in front of any rest, and so are the bytes that a chunk is written as.
 --
+use Rattle.std.specs.Prelude.{if◌then◌else◌}
 use Prim.Native.Nat.{ℕ, ◌+◌, ◌%◌, ◌^◌, ◌≤◌, ◌<◌}
 use Prim.Native.String.{String}
 use mathlib.Core.Path.{◌≡◌, refl, sym, ap, ◌∙◌}
@@ -11,7 +12,7 @@ use lib.ListN.{length, take, drop, replicate, length-append, length-drop, length
 use lib.Seq.{take_at, drop_at, drop-drop, take-append-le, drop-append-le, length-take-le}
 use borrow.Author.Tests.{le-leb, leb-true, eqb-true}
 use Rattle.format.specs.declared.Fault.TheVariants.{BadHeader}
-use Rattle.format.specs.Bytes.{if◌then◌else◌, number, spelt, between, every, all}
+use Rattle.format.specs.Bytes.{number, spelt, between, every, all}
 use Rattle.format.specs.Items.{fine, fault, Got, Reader, ◌and_then◌}
 use Rattle.format.specs.Chunks.{Chunk, size_of, length_of, well_formed, chunk_of, sub, reader_of_length}
 use Rattle.format.specs.Canonical.{bytes, chunk_bytes}

@@ -1,4 +1,5 @@
 -- The items: each is read back from the bytes that it is written as, in front of any rest.
+use Rattle.std.specs.Prelude.{if◌then◌else◌}
 use Prim.Native.Nat.{ℕ, zero, suc, ◌+◌, ◌-◌, ◌/◌, ◌%◌, ◌^◌, ◌≤◌, ◌<◌}
 use mathlib.Core.Path.{◌≡◌, refl, ap, ◌∙◌}
 use mathlib.Core.List.{List, [], ◌∷◌, ◌++◌, map, append_assoc}
@@ -8,7 +9,7 @@ use lib.Dec.{ltb, eqb}
 use lib.ListN.{length, take, drop, replicate, length-append, length-replicate}
 use lib.Seq.{take_at, drop_at, take-append_seam, drop-append_seam}
 use borrow.Author.Tests.{le-leb, ne_eqb, eq-eqb, ltb-true, ltb-false, not-true}
-use Rattle.format.specs.Bytes.{if◌then◌else◌, number, finite, all, joined}
+use Rattle.format.specs.Bytes.{number, finite, all, joined}
 use Rattle.format.specs.Items.{Reader, ◌and_then◌, ◌>>=◌, ◌or◌unless◌, item, uint, float, first_long, long, vx, to_zero, string_size, string}
 use Rattle.format.specs.Canonical.{bytes, vx_bytes, string_bytes}
 use Rattle.format.specs.Written.{has_no_zero}

@@ -1,4 +1,5 @@
 -- The parts of a canonical file make the mesh again, with nothing skipped and no details.
+use Rattle.std.specs.Prelude.{if◌then◌else◌}
 use Prim.Native.Nat.{ℕ}
 use Prim.Native.String.{String}
 use mathlib.Core.Path.{◌≡◌, refl, sym, ap, ◌∙◌}
@@ -9,7 +10,7 @@ use native.Mathlib.Omega.{arith}
 use lib.Dec.{leb, eqb}
 use lib.ListN.{length}
 use borrow.Author.Tests.{eqb-true, not-true}
-use Rattle.format.specs.Bytes.{if◌then◌else◌, finite, all, sum, joined, same, amongst}
+use Rattle.format.specs.Bytes.{finite, all, sum, joined, same, amongst}
 use Rattle.format.specs.Limits.{name_limit}
 use Rattle.format.specs.Mesh.{Point, point_words, Polygon, Name, Surface, Mesh}
 use Rattle.format.specs.Items.{fine}

@@ -1,4 +1,5 @@
 -- Each index has one form: what is written is read, and is never 22; what is read is what is written.
+use Rattle.std.specs.Prelude.{if◌then◌else◌}
 use Prim.Native.Nat.{ℕ, ◌+◌, ◌/◌, ◌%◌, ◌^◌, ◌≤◌, ◌<◌}
 use mathlib.Core.Path.{◌≡◌, refl, sym, ap, ◌∙◌}
 use mathlib.Core.List.{List, ◌++◌}
@@ -9,7 +10,7 @@ use lib.ListN.{length, take, drop, length-take, take-append-drop}
 use borrow.Author.Tests.{lt-ltb, le-ltb, leb-true, eqb-true, eqb-false}
 use Rattle.format.specs.declared.Fault.{Fault}
 use Rattle.format.specs.declared.Fault.TheVariants.{ItemCut, LongIndex}
-use Rattle.format.specs.Bytes.{if◌then◌else◌, byte, number, all}
+use Rattle.format.specs.Bytes.{byte, number, all}
 use Rattle.format.specs.Items.{Verdict, fine, fault, Got, ◌and_then◌, ◌>>=◌, give, ◌or◌unless◌, item, uint, u2, first_long, long, long_form, vx}
 use Rattle.format.specs.Canonical.{bytes, vx_bytes}
 use Rattle.format.proofs.Facts.{impossible, all_part}

@@ -1,4 +1,5 @@
 -- The runs that a canonical file cuts the polygons into: their parts make the polygons again, with their kinds and tags.
+use Rattle.std.specs.Prelude.{if◌then◌else◌}
 use Prim.Native.Nat.{ℕ, suc, ◌+◌}
 use Prim.Native.String.{String}
 use mathlib.Core.Path.{◌≡◌, refl, sym, ap, subst, ◌∙◌}
@@ -10,7 +11,7 @@ use lib.Dec.{eqb}
 use lib.ListN.{length, length-append}
 use lib.Seq.{append_snoc}
 use borrow.Author.Tests.{eqb-true, eq-eqb}
-use Rattle.format.specs.Bytes.{if◌then◌else◌, spelt, number, all, joined}
+use Rattle.format.specs.Bytes.{spelt, number, all, joined}
 use Rattle.format.specs.Mesh.{Point, Polygon, polygon_of, Name, Surface, Mesh}
 use Rattle.format.specs.Bodies.{Part, point_list, name_list, surface}
 use Rattle.format.specs.Rules.{from, with_tag, retag, tagged, polygons_in}

@@ -1,5 +1,6 @@
 -- What every reader obeys, by one induction over how readers are made: a fault is a chunk's, lies within the chunk and is told where what has it starts, and what
 -- is read of bytes is good.
+use Rattle.std.specs.Prelude.{if◌then◌else◌}
 use Prim.Native.Nat.{ℕ, zero, suc, ◌+◌, ◌-◌, ◌%◌, ◌≤◌}
 use mathlib.Core.Path.{◌≡◌, refl, ap, ◌∙◌}
 use mathlib.Core.List.{List, [], ◌∷◌, ◌++◌, map}
@@ -15,7 +16,7 @@ use Rattle.format.specs.declared.Container.{Container}
 use Rattle.format.specs.declared.Container.TheVariants.{Surf, Blok, Attributes}
 use Rattle.format.specs.declared.Fault.{Fault}
 use Rattle.format.specs.declared.Fault.TheVariants.{BadHeader, WrongLength, ItemCut, StringOpen, SurfaceValue}
-use Rattle.format.specs.Bytes.{if◌then◌else◌, ◌is◌, byte, between, number, signed, absolute, negative, finite, over255, all, empty, joined}
+use Rattle.format.specs.Bytes.{◌is◌, byte, between, number, signed, absolute, negative, finite, over255, all, empty, joined}
 use Rattle.format.specs.Limits.{tag_limit, lwo2_vertex_limit, lwob_vertex_limit}
 use Rattle.format.specs.Refusals.{number_of, is_of_chunk}
 use Rattle.format.specs.Items.{Verdict, fine, fault, Got, Reader, ◌>>=◌, ◌and_then◌, give, ◌or◌unless◌, ◌followed_by◌, whole, times, up_to, many, item, uint, u2, i2, float, long, long_form, vx, string, to_zero, string_size}

@@ -1,4 +1,5 @@
 -- What room in the lent tables decides: whether a mesh is answered with 0 or with 16, and nothing else of the answer.
+use Rattle.std.specs.Prelude.{if◌then◌else◌}
 use Prim.Native.Nat.{ℕ, ◌/◌, ◌≤◌}
 use mathlib.Core.Path.{◌≡◌, refl, sym, ap, ◌∙◌}
 use mathlib.Core.List.{List}
@@ -10,7 +11,7 @@ use lib.ListN.{length}
 use borrow.Author.Tests.{le-leb, leb-true}
 use Rattle.format.specs.declared.Fault.{Fault}
 use Rattle.format.specs.declared.Fault.TheVariants.{FileTooLong, NotForm, FormLength, BadHeader, OutOfOrder, WrongLength, ItemCut, StringOpen, LongIndex, NotFinite, VertexCount, VertexNumber, SurfaceNumber, PolygonNumber, PolygonType, BadName, DetailSurface, SurfaceValue}
-use Rattle.format.specs.Bytes.{if◌then◌else◌, every}
+use Rattle.format.specs.Bytes.{every}
 use Rattle.format.specs.Refusals.{number_of, is_of_reader, no_room_number}
 use Rattle.format.specs.Items.{Verdict, fine, fault}
 use Rattle.format.specs.declared.Kind.{Kind}

@@ -1,4 +1,5 @@
 -- The walk over the chunks of a canonical file: each is judged fine, and what each contributes.
+use Rattle.std.specs.Prelude.{if◌then◌else◌}
 use Prim.Native.Nat.{ℕ, suc, ◌+◌, ◌^◌, ◌≤◌, ◌<◌}
 use Prim.Native.String.{String}
 use mathlib.Core.Path.{◌≡◌, refl, ◌∙◌}
@@ -9,7 +10,7 @@ use native.Mathlib.Omega.{arith}
 use lib.Dec.{ltb, eqb}
 use lib.ListN.{length, length-append, length-map}
 use borrow.Author.Tests.{ltb-true}
-use Rattle.format.specs.Bytes.{if◌then◌else◌, number, spelt, all, joined}
+use Rattle.format.specs.Bytes.{number, spelt, all, joined}
 use Rattle.format.specs.Items.{fine, ◌and_then◌}
 use Rattle.format.specs.declared.Kind.{Kind}
 use Rattle.format.specs.declared.Kind.TheVariants.{LWO2}

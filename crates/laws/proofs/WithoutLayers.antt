@@ -1,4 +1,5 @@
 -- Some layers of an accepted file taken out: every other chunk is judged by the names and by lists of its own layer, and these are the latest then too.
+use Rattle.std.specs.Prelude.{if◌then◌else◌}
 use Prim.Native.Nat.{ℕ, ◌+◌}
 use mathlib.Core.Path.{◌≡◌, refl, sym, subst, ◌∙◌}
 use mathlib.Core.List.{List, [], ◌∷◌}
@@ -6,7 +7,7 @@ use mathlib.Core.Bool.{Bool, true, false, not}
 use mathlib.Core.Option.{Option, none, some}
 use lib.ListN.{length}
 use Rattle.format.specs.declared.Kind.TheVariants.{LWO2}
-use Rattle.format.specs.Bytes.{if◌then◌else◌, ◌is◌}
+use Rattle.format.specs.Bytes.{◌is◌}
 use Rattle.format.specs.Items.{Verdict, fine, Reader}
 use Rattle.format.specs.Chunks.{size_of, Chunks, finished, broken, chunk}
 use Rattle.format.specs.Mesh.{Mesh}

@@ -1,4 +1,5 @@
 -- What the writer wrote, read back: the round trip over tables and over the writer's and the reader's answers.
+use Rattle.std.specs.Prelude.{if◌then◌else◌}
 use Prim.Native.Nat.{ℕ, ◌≤◌}
 use mathlib.Core.Path.{◌≡◌, refl}
 use mathlib.Core.List.{List}
@@ -8,7 +9,6 @@ use lib.Dec.{ltb}
 use lib.ListN.{length, take, drop}
 use lib.Seq.{take_at}
 use borrow.Author.Tests.{ltb-false, le-ltb}
-use Rattle.format.specs.Bytes.{if◌then◌else◌}
 use Rattle.format.specs.Limits.{file_limit}
 use Rattle.format.specs.Refusals.{no_room_number, not_mesh_number, too_long_number}
 use Rattle.format.specs.Mesh.{Mesh, Tables, tables, needs}

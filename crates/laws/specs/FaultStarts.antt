@@ -1,11 +1,11 @@
 -- Where what has a fault starts: "the offset of the first byte of the header, item or string at fault". All that stands before it is read and is fine, and the
 -- reading of it begins at its first byte. Nothing here goes by the place that a reader tells.
-use Rattle.std.specs.Prelude.{ℕ, suc, ◌+◌, ◌<◌, ◌≡◌, List, [], ◌∷◌, ◌++◌, Bool, true, false, length, ℤ}
+use Rattle.std.specs.Prelude.{ℕ, suc, ◌+◌, ◌<◌, ◌≡◌, List, [], ◌∷◌, ◌++◌, Bool, true, false, length, ℤ, if◌then◌else◌}
 use Rattle.format.specs.declared.Container.{Container}
 use Rattle.format.specs.declared.Container.TheVariants.{Blok}
 use Rattle.format.specs.declared.Fault.{Fault}
 use Rattle.format.specs.declared.Fault.TheVariants.{BadHeader, OutOfOrder, WrongLength, ItemCut, StringOpen, SurfaceValue}
-use Rattle.format.specs.Bytes.{if◌then◌else◌, empty}
+use Rattle.format.specs.Bytes.{empty}
 use Rattle.format.specs.Items.{Verdict, fine, Got, Reader, ◌>>=◌, give, ◌or◌unless◌, ◌followed_by◌, up_to, many, item, uint, u2, i2, long, low24, long_form, vx, string}
 use Rattle.format.specs.Chunks.{Chunk, header_of, well_formed, chunk_of, reader_of_length, sub}
 use Rattle.format.specs.Mesh.{Name}

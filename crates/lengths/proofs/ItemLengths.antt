@@ -1,4 +1,5 @@
 -- How long items, entries and chunks are.
+use Rattle.std.specs.Prelude.{if◌then◌else◌}
 use Prim.Native.Nat.{ℕ, suc, ◌+◌, ◌*◌, ◌/◌, ◌%◌}
 use Prim.Native.String.{String}
 use mathlib.Core.Path.{◌≡◌, refl, ap, ◌∙◌}
@@ -9,7 +10,7 @@ use lib.Dec.{eqb}
 use lib.ListN.{length, take, drop, replicate, length-append, length-replicate, length-drop, take-append-drop}
 use lib.Seq.{length-take-le}
 use borrow.Author.Tests.{ne_eqb}
-use Rattle.format.specs.Bytes.{if◌then◌else◌, spelt, sum, joined}
+use Rattle.format.specs.Bytes.{spelt, sum, joined}
 use Rattle.format.specs.Items.{string_size}
 use Rattle.format.specs.Chunks.{size_of}
 use Rattle.format.specs.Mesh.{Surface, Name, word, polygon_size}

@@ -1,6 +1,5 @@
 -- How many bytes the parts of a canonical file take, by the numbers that the tables hold.
-use Rattle.std.specs.Prelude.{ℕ, ◌+◌, ◌≤◌, ◌≡◌, List, [], ◌∷◌, eqb}
-use Rattle.format.specs.Bytes.{if◌then◌else◌}
+use Rattle.std.specs.Prelude.{ℕ, ◌+◌, ◌≤◌, ◌≡◌, List, [], ◌∷◌, eqb, if◌then◌else◌}
 use Rattle.format.specs.Items.{string_size}
 use Rattle.format.specs.Chunks.{size_of}
 

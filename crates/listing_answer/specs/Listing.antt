@@ -1,6 +1,6 @@
 -- The listing of an answer, as bytes: an accepted file's counts and polygons, or a refusal's line.
-use Rattle.std.specs.Prelude.{ℕ, List, [], ◌++◌, eqb}
-use Rattle.format.specs.Bytes.{if◌then◌else◌, spelt}
+use Rattle.std.specs.Prelude.{ℕ, List, [], ◌++◌, eqb, if◌then◌else◌}
+use Rattle.format.specs.Bytes.{spelt}
 use Rattle.format.specs.Mesh.{Polygon, Needs}
 use Rattle.format.specs.Rules.{Outcome, refused, gives}
 use Rattle.format.specs.Answer.{Answer}

@@ -1,5 +1,6 @@
 -- What demand 1 says of the listing program: the text is the listing of an answer, which goes by the rules and by the program's room; each line has its own
 -- first byte.
+use Rattle.std.specs.Prelude.{if◌then◌else◌}
 use Prim.Native.Nat.{ℕ, ◌<◌, ◌≤◌}
 use mathlib.Core.Path.{◌≡◌, refl, ap, ◌∙◌, sym}
 use mathlib.Core.List.{List, ◌++◌}
@@ -9,7 +10,6 @@ use native.Mathlib.Omega.{arith}
 use lib.Dec.{ltb, eqb}
 use lib.ListN.{length, get_or}
 use borrow.Author.Tests.{ne_eqb, ltb-true, lt-ltb, le-ltb}
-use Rattle.format.specs.Bytes.{if◌then◌else◌}
 use Rattle.format.specs.Refusals.{is_of_reader}
 use Rattle.format.specs.Mesh.{Polygon}
 use Rattle.format.specs.Rules.{rules}

@@ -1,6 +1,6 @@
 -- What the program prints for an input, as bytes.
-use Rattle.std.specs.Prelude.{ℕ, ◌*◌, ◌≡◌, List, ◌++◌, ltb, length, take, replicate}
-use Rattle.format.specs.Bytes.{if◌then◌else◌, spelt}
+use Rattle.std.specs.Prelude.{ℕ, ◌*◌, ◌≡◌, List, ◌++◌, ltb, length, take, replicate, if◌then◌else◌}
+use Rattle.format.specs.Bytes.{spelt}
 use Rattle.format.specs.Mesh.{point_size, polygon_size, record_size, Tables, lent}
 use Rattle.format.specs.Rules.{rules}
 use Rattle.format.specs.Answer.{answer}

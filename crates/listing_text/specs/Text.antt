@@ -1,6 +1,6 @@
 -- The text of numbers, of counts and of polygons, as bytes.
-use Rattle.std.specs.Prelude.{ℕ, zero, suc, ◌+◌, ◌/◌, ◌%◌, List, [], ◌∷◌, ◌++◌, map, ltb}
-use Rattle.format.specs.Bytes.{if◌then◌else◌, spelt, joined}
+use Rattle.std.specs.Prelude.{ℕ, zero, suc, ◌+◌, ◌/◌, ◌%◌, List, [], ◌∷◌, ◌++◌, map, ltb, if◌then◌else◌}
+use Rattle.format.specs.Bytes.{spelt, joined}
 use Rattle.format.specs.Mesh.{polygon_of, Polygon}
 
 -- ---- numbers and lines

@@ -1,4 +1,5 @@
 -- One chunk after those whose polygons stand in the tables, by its tag: it is points, names, polygons, tags, a layer, or none of them, and then changes nothing.
+use Rattle.std.specs.Prelude.{if◌then◌else◌}
 use mathlib.Core.Path.{◌≡◌, refl, sym, subst, ◌∙◌}
 use mathlib.Core.List.{List, map}
 use mathlib.Core.Bool.{true, false}
@@ -7,7 +8,7 @@ use native.Mathlib.Omega.{arith}
 use lib.ListN.{length, drop, length-append, length-map}
 use Rattle.format.specs.declared.Kind.{Kind}
 use Rattle.format.specs.declared.Kind.TheVariants.{LWOB, LWO2}
-use Rattle.format.specs.Bytes.{if◌then◌else◌, ◌is◌}
+use Rattle.format.specs.Bytes.{◌is◌}
 use Rattle.format.specs.Items.{fine, Reader, whole}
 use Rattle.format.specs.Mesh.{Polygon, point_words, point_size, polygon_size}
 use Rattle.format.specs.Bodies.{Part, point_list, name_list, layer, skipped_chunk, points_body, names_body, tagging_body, surface_body}

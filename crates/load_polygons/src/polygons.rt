@@ -4,8 +4,8 @@ ghost use Rattle.polygon_layouts.specs.declared.Layout.{Layout};
 ghost use Rattle.load_polygons.specs.Promises.{RoomIn, PutIn, BodyRoom, BodyPut};
 
 use crate::entries::{PolygonStored, put_entries};
+use load_vertices::polygon_words::put_polygon_words;
 use load_vertices::vertices::put_vx_vertices;
-use load_vertices::words::put_polygon_words;
 use load_vertices::{Ends, Lists};
 use polygon_layouts::{Layout, polygon_kind};
 use wire::cursor::{Cursor, Number};

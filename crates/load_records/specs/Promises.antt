@@ -1,8 +1,8 @@
 -- Records in code and in the specification.
-use Rattle.std.specs.Prelude.{ℕ, ◌≡◌, List, Float}
+use Rattle.std.specs.Prelude.{ℕ, ◌≡◌, List, Float, if◌then◌else◌}
 use Rattle.format.specs.declared.Kind.{Kind}
 use Rattle.format.specs.declared.Kind.TheVariants.{LWOB, LWO2}
-use Rattle.format.specs.Bytes.{if◌then◌else◌, f32_one}
+use Rattle.format.specs.Bytes.{f32_one}
 use Rattle.format.specs.Items.{fine}
 use Rattle.format.specs.Mesh.{Surface, missing}
 use Rattle.format.specs.Surfaces.{bit, record_of}

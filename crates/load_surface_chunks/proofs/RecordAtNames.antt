@@ -1,4 +1,5 @@
 -- A record that is stored at the listed names equal to one name: at each name its words are put or kept, and no others are changed.
+use Rattle.std.specs.Prelude.{if◌then◌else◌}
 use Prim.Native.Nat.{ℕ, ◌+◌, ◌-◌, ◌*◌, ◌<◌, ◌≤◌}
 use mathlib.Core.Path.{◌≡◌, refl, sym, ◌∙◌}
 use mathlib.Core.List.{List, ◌++◌, append_assoc}
@@ -6,7 +7,7 @@ use mathlib.Core.Bool.{Bool, true, false}
 use native.Mathlib.Omega.{arith}
 use lib.ListN.{length, get_or, take, drop, length-append, length-take, take-append-drop}
 use lib.Seq.{take_at, drop_at, drop-drop, take-add}
-use Rattle.format.specs.Bytes.{if◌then◌else◌, sum, same}
+use Rattle.format.specs.Bytes.{sum, same}
 use Rattle.format.specs.Mesh.{Name, Surface, surface_words, record_size}
 use Rattle.format.specs.Written.{pieces}
 use Rattle.format.specs.Promises.{Put}

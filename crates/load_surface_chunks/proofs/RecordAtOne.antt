@@ -1,4 +1,5 @@
 -- Where the listed names are all different, a record that is stored at those equal to one name is stored at one entry, or at none.
+use Rattle.std.specs.Prelude.{if◌then◌else◌}
 use Prim.Native.Nat.{ℕ, zero, suc, ◌+◌, ◌-◌, ◌*◌, ◌<◌, ◌≤◌}
 use mathlib.Core.Path.{◌≡◌, refl, sym, ap, ◌∙◌}
 use mathlib.Core.List.{List, [], ◌∷◌, ◌++◌, append_assoc}
@@ -6,7 +7,7 @@ use mathlib.Core.Bool.{Bool, true, false, true≢false, false≢true}
 use native.Mathlib.Omega.{arith}
 use lib.ListN.{length, get_or, take, drop, length-map, take-append-drop}
 use lib.Seq.{drop-drop, take-add}
-use Rattle.format.specs.Bytes.{if◌then◌else◌, same, amongst}
+use Rattle.format.specs.Bytes.{same, amongst}
 use Rattle.format.specs.Mesh.{Name, Surface, surface_words, record_size}
 use Rattle.format.specs.Written.{pieces}
 use Rattle.format.specs.Promises.{Put}

@@ -1,4 +1,5 @@
 -- The walk that stores the SURFs: the records are as the SURFs that were passed leave them.
+use Rattle.std.specs.Prelude.{if◌then◌else◌}
 use Prim.Native.Nat.{ℕ, ◌*◌, ◌≤◌}
 use mathlib.Core.Path.{◌≡◌, refl, sym, ap, ◌∙◌}
 use mathlib.Core.List.{List, [], ◌∷◌, ◌++◌, map, foldl-append, append-nil}
@@ -6,7 +7,7 @@ use mathlib.Core.Bool.{Bool, true, false}
 use native.Mathlib.Omega.{arith}
 use lib.ListN.{length, take, drop, length-append, length-take, length-drop}
 use Rattle.format.specs.declared.Kind.{Kind}
-use Rattle.format.specs.Bytes.{if◌then◌else◌, all, joined, same}
+use Rattle.format.specs.Bytes.{all, joined, same}
 use Rattle.format.specs.Items.{fine}
 use Rattle.format.specs.Mesh.{Name, Surface, surface_words, record_size}
 use Rattle.format.specs.Surfaces.{record_of}

@@ -1,8 +1,8 @@
 -- SURFs stored at the listed names that are equal to theirs.
-use Rattle.std.specs.Prelude.{ℕ, ◌*◌, ◌<◌, ◌≤◌, ◌≡◌, length, take, drop}
+use Rattle.std.specs.Prelude.{ℕ, ◌*◌, ◌<◌, ◌≤◌, ◌≡◌, length, take, drop, if◌then◌else◌}
 use mathlib.Core.List.{List, [], ◌∷◌, ◌++◌, map, foldl}
 use Rattle.format.specs.declared.Kind.{Kind}
-use Rattle.format.specs.Bytes.{if◌then◌else◌, sum, joined, same}
+use Rattle.format.specs.Bytes.{sum, joined, same}
 use Rattle.format.specs.Items.{fine}
 use Rattle.format.specs.Mesh.{Name, Surface, surface_words, record_size}
 use Rattle.format.specs.Surfaces.{record_of}

@@ -1,4 +1,5 @@
 -- The walks of all blocks: a walk gives the names of its block their last record, and leaves those of all other names as they were.
+use Rattle.std.specs.Prelude.{if◌then◌else◌}
 use Prim.Native.Nat.{ℕ, ◌+◌, ◌-◌, ◌*◌, ◌≤◌}
 use mathlib.Core.Path.{◌≡◌, refl, sym, ap, ◌∙◌}
 use mathlib.Core.List.{List, [], ◌∷◌, ◌++◌, map, append_assoc, append-nil, map-append}
@@ -10,7 +11,7 @@ use lib.ListN.{length, take, drop, replicate, length-append, length-take, length
 use lib.Seq.{take_at, drop_at, drop-drop, take_all, length-take-le}
 use borrow.Rule.Slice.PartMut.{put_mid}
 use Rattle.format.specs.declared.Kind.{Kind}
-use Rattle.format.specs.Bytes.{if◌then◌else◌, sum, joined, same}
+use Rattle.format.specs.Bytes.{sum, joined, same}
 use Rattle.format.specs.Items.{fine}
 use Rattle.format.specs.Limits.{name_limit}
 use Rattle.format.specs.Mesh.{Name, Surface, missing, surface_words, record_size}

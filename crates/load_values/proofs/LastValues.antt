@@ -1,4 +1,5 @@
 -- Where the sub-chunks were judged fine, each gives the value that its tag says, for a BLOK gives none; so the last values are taken in one after another.
+use Rattle.std.specs.Prelude.{if◌then◌else◌}
 use mathlib.Core.Path.{◌≡◌, refl, sym, ap, ◌∙◌}
 use mathlib.Core.Bool.{Bool, true, false}
 use mathlib.Core.List.{List, []}
@@ -12,7 +13,7 @@ use Rattle.format.specs.declared.Container.{Container}
 use Rattle.format.specs.declared.Container.TheVariants.{Surf, Blok}
 use Rattle.format.specs.declared.Fault.{Fault}
 use Rattle.format.specs.declared.Fault.TheVariants.{WrongLength, SurfaceValue}
-use Rattle.format.specs.Bytes.{if◌then◌else◌, tag_number, ◌is◌, number, joined, empty}
+use Rattle.format.specs.Bytes.{tag_number, ◌is◌, number, joined, empty}
 use Rattle.format.specs.Items.{Verdict, fine, fault, Got, ◌and_then◌, ◌>>=◌, give, Reader, whole}
 use Rattle.format.specs.Chunks.{header_of, chunk_of, sub, unjudged}
 use Rattle.format.specs.Surfaces.{Value as Words, lwo2_value, value_of, block, held, nested, surface_depth}

@@ -1,10 +1,9 @@
 -- The last value of each tag in a SURF: as words of the specification, in code, and what the answers on them say.
-use Rattle.std.specs.Prelude.{ℕ, ◌≡◌, List, true, false, Float}
+use Rattle.std.specs.Prelude.{ℕ, ◌≡◌, List, true, false, Float, if◌then◌else◌}
 use Rattle.std.specs.Float.{binary32}
 use Rattle.std.specs.Float.Ieee.{of_bits}
 use Rattle.format.specs.declared.Kind.{Kind}
 use Rattle.format.specs.declared.Container.TheVariants.{Surf}
-use Rattle.format.specs.Bytes.{if◌then◌else◌}
 use Rattle.format.specs.Items.{fine}
 use Rattle.format.specs.Mesh.{missing_colour, missing}
 use Rattle.format.specs.Surfaces.{Value as Words, last_of, nested, surface_depth}

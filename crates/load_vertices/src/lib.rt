@@ -3,8 +3,8 @@
 #![tactic(auto)]
 
 pub mod lwob_entry;
+pub mod polygon_words;
 pub mod vertices;
-pub mod words;
 
 // The lists that the numbers in a polygon are read by: how many points come before the latest list of points, how many that list has, and how many names
 // there are.

@@ -3,8 +3,8 @@ ghost use Rattle.std.specs.Prelude.{◌≡◌, false};
 ghost use Rattle.format.specs.Promises.{itself};
 ghost use Rattle.load_vertices.specs.Promises.{EntryRoom, lwob_entry, LwobEntryPut};
 
+use crate::polygon_words::put_polygon_words;
 use crate::vertices::put_u2_vertices;
-use crate::words::put_polygon_words;
 use crate::{Ends, Lists};
 use wire::cursor::{Cursor, Number, SignedSurface, SignedSurfaceRead};
 

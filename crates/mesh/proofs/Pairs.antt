@@ -1,4 +1,5 @@
 -- The pairs of a PTAG by the surface numbers, or the part names, of a run: the first number has the first pair, or none.
+use Rattle.std.specs.Prelude.{if◌then◌else◌}
 use Prim.Native.Nat.{ℕ, suc, ◌+◌, ◌-◌}
 use mathlib.Core.Path.{◌≡◌, refl, ap, ◌∙◌}
 use mathlib.Core.List.{List, [], ◌∷◌, ◌++◌, map}
@@ -8,7 +9,7 @@ use native.Mathlib.Omega.{arith}
 use lib.Dec.{eqb}
 use lib.ListN.{length, length-append}
 use borrow.Author.Tests.{eq-eqb, ne_eqb}
-use Rattle.format.specs.Bytes.{if◌then◌else◌, joined}
+use Rattle.format.specs.Bytes.{joined}
 use Rattle.format.specs.Mesh.{Polygon}
 use Rattle.format.specs.Canonical.{bytes, vx_bytes, pairs_of, pair_bytes}
 use Rattle.format.specs.Promises.{total}

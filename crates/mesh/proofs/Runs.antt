@@ -1,4 +1,5 @@
 -- The first run of what is left, by the places where it begins and ends: its words and vertices are in front, and the other runs are of what stands after.
+use Rattle.std.specs.Prelude.{if◌then◌else◌}
 use Prim.Native.Nat.{ℕ, zero, suc, ◌+◌, ◌-◌, ◌*◌, ◌/◌, ◌<◌, ◌≤◌}
 use mathlib.Core.Path.{subst, ◌≡◌, refl, sym, ap, ◌∙◌}
 use mathlib.Core.List.{List, [], ◌∷◌, ◌++◌, map, map-append}
@@ -8,7 +9,7 @@ use lib.Dec.{eqb}
 use lib.ListN.{length, take, drop, length-drop, length-map}
 use lib.Seq.{drop_at, take_at, take-take, drop-drop, length-take-le}
 use borrow.Author.Tests.{eqb-true, eq-eqb, ne_eqb}
-use Rattle.format.specs.Bytes.{if◌then◌else◌, sum}
+use Rattle.format.specs.Bytes.{sum}
 use Rattle.format.specs.Mesh.{Polygon, word, polygon_size, polygon_from}
 use Rattle.format.specs.Canonical.{ahead, runs}
 use Rattle.format.specs.Written.{pieces, entries, polygons_from, vertex_counts}

@@ -1,6 +1,6 @@
 -- One polygon of the tables as code sees it, the runs of polygons of one kind, and the pairs that a run is tagged by.
-use Rattle.std.specs.Prelude.{ℕ, suc, ◌+◌, ◌*◌, ◌≤◌, ◌≡◌, List, [], ◌∷◌, ◌++◌, eqb, length, drop}
-use Rattle.format.specs.Bytes.{if◌then◌else◌, sum}
+use Rattle.std.specs.Prelude.{ℕ, suc, ◌+◌, ◌*◌, ◌≤◌, ◌≡◌, List, [], ◌∷◌, ◌++◌, eqb, length, drop, if◌then◌else◌}
+use Rattle.format.specs.Bytes.{sum}
 use Rattle.format.specs.Limits.{entry_limit}
 use Rattle.format.specs.Mesh.{word, polygon_size}
 use Rattle.format.specs.Canonical.{pair_bytes}

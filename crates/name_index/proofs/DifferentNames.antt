@@ -1,8 +1,9 @@
 -- Names of which each is new after those before it are all different, and so are those at their front and those after them.
+use Rattle.std.specs.Prelude.{if◌then◌else◌}
 use mathlib.Core.Path.{◌≡◌, refl}
 use mathlib.Core.List.{List, [], ◌∷◌, ◌++◌}
 use mathlib.Core.Bool.{Bool, true, false, false≢true, and-eq-true_iff}
-use Rattle.format.specs.Bytes.{if◌then◌else◌, same, amongst}
+use Rattle.format.specs.Bytes.{same, amongst}
 use Rattle.format.specs.Mesh.{Name}
 use Rattle.format.proofs.AmongstNames.{first_there, later_there, neither_first}
 use Rattle.format.proofs.SameLists.{same_eq, same_refl}

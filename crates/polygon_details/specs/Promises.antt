@@ -1,6 +1,5 @@
 -- The details of a face, by the sign of its surface number.
-use Rattle.std.specs.Prelude.{ℕ, Bool}
-use Rattle.format.specs.Bytes.{if◌then◌else◌}
+use Rattle.std.specs.Prelude.{ℕ, Bool, if◌then◌else◌}
 use Rattle.format.specs.Items.{Reader, give}
 use Rattle.format.specs.Bodies.{details}
 

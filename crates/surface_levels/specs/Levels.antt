@@ -1,8 +1,8 @@
 -- Levels as floats and as bits.
-use Rattle.std.specs.Prelude.{ℕ, suc, ◌+◌, ◌-◌, ◌*◌, ◌^◌, ◌≡◌, not, T, eqb, ℤ, pos, negsuc, Float}
+use Rattle.std.specs.Prelude.{ℕ, suc, ◌+◌, ◌-◌, ◌*◌, ◌^◌, ◌≡◌, not, T, eqb, ℤ, pos, negsuc, Float, if◌then◌else◌}
 use Rattle.std.specs.Float.{binary32}
 use Rattle.std.specs.Float.Ieee.{size, to_bits, is_nan}
-use Rattle.format.specs.Bytes.{if◌then◌else◌, over255, over256}
+use Rattle.format.specs.Bytes.{over255, over256}
 
 -- a float that has bits of its own: no NaN
 abbrev pub HasBits : Float → Type 0

@@ -1,4 +1,5 @@
 -- A chunk's counts from its body's: each body makes one sort of part, and of that part its function keeps what it adds to the counts.
+use Rattle.std.specs.Prelude.{if◌then◌else◌}
 use mathlib.Core.Path.{◌≡◌, refl, ap, ◌∙◌}
 use mathlib.Core.List.{List}
 use mathlib.Core.Bool.{Bool, true, false}
@@ -6,7 +7,7 @@ use Prim.Native.Nat.{ℕ}
 use lib.ListN.{drop}
 use Rattle.format.specs.declared.Kind.{Kind}
 use Rattle.format.specs.declared.Fault.TheVariants.{WrongLength, OutOfOrder}
-use Rattle.format.specs.Bytes.{if◌then◌else◌, empty}
+use Rattle.format.specs.Bytes.{empty}
 use Rattle.format.specs.Items.{Verdict, fine, fault, Got, Reader, ◌and_then◌, whole}
 use Rattle.format.specs.Promises.{nothing, Judged}
 use Rattle.format.specs.Bodies.{Part, skipped_chunk, points_body, names_body, layer_body, faces_body, patches_body, polygons_body, tagging_body, surface_body}

@@ -1,7 +1,7 @@
 -- What the answer on a chunk says, in the specification's words. `s` is a chunk's bytes from its tag up to its body's end.
-use Rattle.std.specs.Prelude.{ℕ, ◌≡◌, List, map, ◌&&◌, eqb, length, drop}
+use Rattle.std.specs.Prelude.{ℕ, ◌≡◌, List, map, ◌&&◌, eqb, length, drop, if◌then◌else◌}
 use Rattle.std.proofs.Math.Option.{Option, none, some}
-use Rattle.format.specs.Bytes.{if◌then◌else◌, tag_number, sum}
+use Rattle.format.specs.Bytes.{tag_number, sum}
 use Rattle.format.specs.Items.{Verdict, fine, fault, ◌and_then◌}
 use Rattle.format.specs.Bodies.{Part, point_list, name_list, polygon_list, tagging, surface, layer, skipped_chunk, faces_body, patches_body}
 use Rattle.format.specs.Rules.{Before, there, count, when◌read◌}

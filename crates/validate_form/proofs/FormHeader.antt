@@ -1,4 +1,5 @@
 -- The first twelve bytes of a file, test by test: each test of the rules is the one that the code makes there.
+use Rattle.std.specs.Prelude.{if◌then◌else◌}
 use mathlib.Core.Path.{◌≡◌}
 use mathlib.Core.List.{List}
 use Prim.Native.Nat.{ℕ, ◌+◌, ◌≤◌, ◌<◌}
@@ -9,7 +10,7 @@ use borrow.Author.Tests.{lt-ltb, le-ltb, eq-eqb, ne_eqb}
 use Rattle.format.specs.declared.Kind.{Kind}
 use Rattle.format.specs.declared.Fault.{Fault}
 use Rattle.format.specs.declared.Fault.TheVariants.{FileTooLong, NotForm, FormLength}
-use Rattle.format.specs.Bytes.{if◌then◌else◌, number, tag_number, ◌is◌}
+use Rattle.format.specs.Bytes.{number, tag_number, ◌is◌}
 use Rattle.format.specs.Items.{fine, fault, ◌and_then◌}
 use Rattle.format.specs.Rules.{kind_of, form}
 

@@ -1,7 +1,7 @@
 -- What the answers on points and on names say, in the specification's words. `s` is the lent slice, and `at` the place that was read at.
-use Rattle.std.specs.Prelude.{ℕ, ◌+◌, ◌<◌, ◌≤◌, List, [], ◌∷◌, map, length, ltb}
+use Rattle.std.specs.Prelude.{ℕ, ◌+◌, ◌<◌, ◌≤◌, List, [], ◌∷◌, map, length, ltb, if◌then◌else◌}
 use Rattle.format.specs.declared.Fault.TheVariants.{NotFinite}
-use Rattle.format.specs.Bytes.{if◌then◌else◌, sum}
+use Rattle.format.specs.Bytes.{sum}
 use Rattle.format.specs.Items.{Verdict, fine, fault, string}
 use Rattle.format.specs.Mesh.{Name}
 use Rattle.format.specs.Bodies.{Part, point}

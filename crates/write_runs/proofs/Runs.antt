@@ -1,4 +1,5 @@
 -- A run is a POLS and, where some polygon has a surface or a part name, a PTAG of each; all runs are a walk that puts the chunks of each behind those before it.
+use Rattle.std.specs.Prelude.{if◌then◌else◌}
 use Prim.Native.Nat.{ℕ, suc, ◌+◌, ◌-◌, ◌<◌, ◌≤◌, ◌^◌}
 use Prim.Native.String.{String}
 use mathlib.Core.Path.{◌≡◌, refl, sym, ap, ◌∙◌}
@@ -8,7 +9,7 @@ use native.Mathlib.Omega.{arith}
 use lib.Dec.{eqb, ltb}
 use lib.ListN.{length, take, drop, length-append}
 use borrow.Author.Tests.{eq-eqb, ne_eqb}
-use Rattle.format.specs.Bytes.{number, tag_number, if◌then◌else◌, spelt, all, sum, joined}
+use Rattle.format.specs.Bytes.{number, tag_number, spelt, all, sum, joined}
 use Rattle.format.specs.Mesh.{Polygon, word, polygon_size}
 use Rattle.format.specs.Canonical.{bytes, vx_bytes, chunk_bytes, polygon_bytes, type_of, pairs_of, pair_bytes, runs, unless_empty, tagging_chunk, run_chunks, encoded}
 use Rattle.format.specs.Written.{vertex_counts}

@@ -1,6 +1,6 @@
 -- The parts of the chunks of a run as they are put into the output, and the room that they take.
-use Rattle.std.specs.Prelude.{ℕ, ◌+◌, ◌≤◌, ◌^◌, ◌≡◌, List, [], ◌++◌, map, true, eqb, ltb, length}
-use Rattle.format.specs.Bytes.{if◌then◌else◌, all, sum, joined}
+use Rattle.std.specs.Prelude.{ℕ, ◌+◌, ◌≤◌, ◌^◌, ◌≡◌, List, [], ◌++◌, map, true, eqb, ltb, length, if◌then◌else◌}
+use Rattle.format.specs.Bytes.{all, sum, joined}
 use Rattle.format.specs.Mesh.{polygon_size}
 use Rattle.format.specs.Canonical.{bytes, vx_bytes, chunk_bytes, polygon_bytes}
 use Rattle.format.specs.Written.{vertex_counts}

@@ -1,4 +1,5 @@
 -- A SURF is put part by part, and the names and their records are walked together: what is left is the chunks of the names that are left.
+use Rattle.std.specs.Prelude.{if◌then◌else◌}
 use Prim.Native.Nat.{ℕ, ◌+◌, ◌-◌, ◌*◌, ◌<◌, ◌≤◌}
 use Prim.Native.String.{String}
 use mathlib.Core.Path.{◌≡◌, refl, sym, ap, ◌∙◌}
@@ -9,7 +10,7 @@ use lib.Dec.{eqb}
 use lib.ListN.{length, get_or, take, drop, length-append, length-drop}
 use lib.Seq.{length-take-le}
 use borrow.Author.Tests.{eq-eqb, ne_eqb}
-use Rattle.format.specs.Bytes.{number, tag_number, if◌then◌else◌, sum, joined}
+use Rattle.format.specs.Bytes.{number, tag_number, sum, joined}
 use Rattle.format.specs.Mesh.{Name, Surface, record_size, surface_from, surface_words}
 use Rattle.format.specs.Canonical.{bytes, vx_bytes, string_bytes, chunk_bytes, level_bytes, surface_bytes, surface_chunks, encoded}
 use Rattle.format.specs.Written.{pieces}

@@ -1,6 +1,6 @@
 -- The parts of SURF chunks as they are put into the output, and the room that they take.
-use Rattle.std.specs.Prelude.{ℕ, ◌+◌, ◌*◌, ◌≤◌, ◌≡◌, List, [], ◌++◌, map, eqb, length}
-use Rattle.format.specs.Bytes.{if◌then◌else◌, sum, joined}
+use Rattle.std.specs.Prelude.{ℕ, ◌+◌, ◌*◌, ◌≤◌, ◌≡◌, List, [], ◌++◌, map, eqb, length, if◌then◌else◌}
+use Rattle.format.specs.Bytes.{sum, joined}
 use Rattle.format.specs.Mesh.{Name, Surface, record_size}
 use Rattle.format.specs.Canonical.{bytes, vx_bytes, chunk_bytes, value_chunks, surface_bytes, surface_chunks}
 use Rattle.format.specs.Written.{pieces}

@@ -1,4 +1,5 @@
 -- The answer and the output together: nothing is written unless the answer's number is 0, and then the file is.
+use Rattle.std.specs.Prelude.{if◌then◌else◌}
 use Prim.Native.Nat.{ℕ, ◌+◌}
 use mathlib.Core.Path.{◌≡◌, refl, sym, ap, ◌∙◌}
 use mathlib.Core.List.{List}
@@ -7,7 +8,6 @@ use native.Mathlib.Omega.{arith}
 use lib.Dec.{ltb}
 use lib.ListN.{length}
 use borrow.Author.Tests.{eq-eqb, ne_eqb, ltb-false}
-use Rattle.format.specs.Bytes.{if◌then◌else◌}
 use Rattle.format.specs.Limits.{file_limit}
 use Rattle.format.specs.Refusals.{no_room_number, not_mesh_number, too_long_number}
 use Rattle.format.specs.Mesh.{Tables}

@@ -8,7 +8,7 @@ use native.Mathlib.Omega.{arith}
 use Rattle.format.specs.Mesh.{polygon_size}
 use Rattle.format.specs.Promises.{Put}
 use Rattle.format.proofs.Puts.{put_none, put_snoc}
-use Rattle.load_vertices.proofs.words.put_polygon_words.Goals as goal
+use Rattle.load_vertices.proofs.polygon_words.put_polygon_words.Goals as goal
 
 words_put : (table : List ℕ) (i a b c d : ℕ) → i + polygon_size ≤ length table
     → Put table i (a ∷ b ∷ c ∷ d ∷ []) (set (set (set (set table i a) (i + 1) b) (i + 2) c) (i + 3) d)
