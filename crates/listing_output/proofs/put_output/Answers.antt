@@ -20,14 +20,14 @@ returns c = record {
   prints_input =
       was_read c.requires c.if-input-gt65536.false
       (wrote_file c.read-answer.ensures
-       (record {
-         points = search rules;
-         polygons = search rules;
-         vertices = search rules;
-         names = search rules;
-         name_bytes = search rules;
-         records = search rules;
-       })
-       c.put_listing.ensures.wrote);
+      (record {
+        points = search rules;
+        polygons = search rules;
+        vertices = search rules;
+        names = search rules;
+        name_bytes = search rules;
+        records = search rules;
+      })
+      c.put_listing.ensures.wrote);
   prefix_len = counts c.put_listing.ensures (search rules);
 }
