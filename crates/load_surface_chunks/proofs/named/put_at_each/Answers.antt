@@ -28,7 +28,7 @@ loop-i-preserved c =
     let is = c.same_bytes.ensures in (
       k.0,
       elim c.if-same_bytes.branch [
-        then-same_bytes w ↦ rw w.records-is (turn_same k.1 c.loop-i-test.true is w.if-same_bytes.true w.store.ensures)
+        | then-same_bytes w ↦ rw w.records-is (turn_same k.1 c.loop-i-test.true is w.if-same_bytes.true w.store.ensures)
         | else-same_bytes w ↦ rw w.records-is (turn_other k.1 c.loop-i-test.true is w.if-same_bytes.false)
       ],
     )
