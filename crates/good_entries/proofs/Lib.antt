@@ -1,2 +1,3 @@
 pub mod GoodPolygons
+pub mod NameWalk
 pub mod RecordWalk

@@ -1,11 +1,16 @@
--- The test of one entry that a function of this crate answers.
-use Rattle.std.specs.Prelude.{ℕ, [], ◌∷◌, Bool}
+-- The tests of one entry that a function of this crate answers.
+use Rattle.std.specs.Prelude.{ℕ, List, [], ◌∷◌, Bool, ◌&&◌}
 use Rattle.format.specs.Bytes.{between, every}
 use Rattle.format.specs.Limits.{lwo2_vertex_limit}
-use Rattle.format.specs.Mesh.{FACE, PATCH}
-use Rattle.format.specs.Written.{good_tag}
+use Rattle.format.specs.Mesh.{Name, FACE, PATCH}
+use Rattle.format.specs.Bodies.{new_name}
+use Rattle.format.specs.Written.{good_tag, has_no_zero}
 
 -- what `good_polygon` asks of the words of an entry
 abbrev pub good_entry : (name_count kind count surface part_name : ℕ) → Bool
 good_entry name_count kind count surface part_name =
     every (between FACE PATCH kind ∷ between 1 lwo2_vertex_limit count ∷ good_tag name_count surface ∷ good_tag name_count part_name ∷ [])
+
+-- one name's part of `good_names`
+abbrev pub good_name : (earlier : List Name) → Name → Bool
+good_name earlier n = new_name earlier n && has_no_zero n

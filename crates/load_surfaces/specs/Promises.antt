@@ -9,6 +9,10 @@ use Rattle.format.specs.Bodies.{Part}
 use Rattle.format.specs.Rules.{surfaces_of, standing, record_for}
 use Rattle.format.specs.Promises.{file_parts, names_of_parts}
 
+-- SURFs stored at listed names: these definitions stand with the crate that stores them
+unfoldable pub use Rattle.load_surface_chunks.specs.Promises.{with_record}
+pub use Rattle.load_surface_chunks.specs.Promises.{with_surfaces, ListedRoom, ChunkSound, SurfacesPut}
+
 -- for each name, the record of the SURF that stands for it
 abbrev pub all_surfaces : Kind → List Part → List Surface
 all_surfaces kind parts = map (λ n. record_for kind (standing n none (joined (map surfaces_of parts)))) (names_of_parts parts)
