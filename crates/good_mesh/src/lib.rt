@@ -9,9 +9,9 @@ ghost use Rattle.good_mesh.specs.Tests.{whole_length, whole_tables, counts_agree
 
 use format::{POINT_WORDS, POLYGON_WORDS, RECORD_WORDS};
 use good_entries::floats::all_finite;
+use good_entries::names::good_names;
 use good_entries::polygons::good_polygons;
 use good_entries::records::good_records;
-use good_names::good_names;
 use mesh::columns::sum_of;
 use mesh::polygons::vertex_count;
 

@@ -1,2 +1,3 @@
-mod FileNames
-mod RecordBlocks
+mod RecordAtNames
+mod SurfaceChunk
+mod SurfacesWalk

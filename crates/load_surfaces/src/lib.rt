@@ -1,5 +1,5 @@
-// Second pass over the SURF chunks of a file that was validated: each listed name gets the record of the SURF that stands for it. The names stand in their tables
-// already, and only the records of these names are changed, at the front of their table.
+// Second pass over the SURF chunks of a file that was validated: the record of each is stored at its name. The names stand in their tables already, and only
+// the records of these names are changed, at the front of their table.
 #![tactic(auto)]
 
 pub mod records;

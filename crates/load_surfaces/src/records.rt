@@ -1,78 +1,54 @@
-// The surface records of a file into their table, one for each listed name. Where there are more than a few names, a block of them is at hand, and the file's
-// SURFs are walked once for each block.
+// The surface records of a file into their table, one for each listed name.
 ghost use Rattle.std.specs.Prelude.{◌≡◌};
-ghost use Rattle.format.specs.Bytes.{sum};
 ghost use Rattle.format.specs.Written.{pieces};
-ghost use Rattle.format.specs.Promises.{Succeeds, file_parts, FilePut};
-ghost use Rattle.name_index.specs.Index.{Different};
-ghost use Rattle.name_index.specs.Listed.{ShortNames};
-ghost use Rattle.load_surface_chunks.specs.Promises.{ListedRoom, AllPut};
-ghost use Rattle.load_surfaces.specs.Promises.{file_records, RecordsRoom};
+ghost use Rattle.format.specs.Promises.{FilePut};
+ghost use Rattle.load_records.specs.Promises.{LevelsHaveBits, surface_of};
+ghost use Rattle.load_surfaces.specs.Promises.{with_record, ListedRoom, ChunkSound, SurfacesPut, file_records, RecordsRoom};
 
-use format::{Kind, RECORD_WORDS};
-use load_records::table::put_missing;
-use load_surface_chunks::chunks::put_surfaces;
-use name_index::listed::{hold, total};
-use name_index::{FEW, ROOM, multiplier_of};
+use format::Kind;
+use format::tags::SURF;
+use headers::{Header, chunk_at};
+use load_records::record::{Record, record_of};
+use load_records::table::{put_missing, store};
+use wire::cursor::{Cursor, Text};
+use words::same_bytes;
 
-// The records of a few names, which have no index.
-fn fill_few(file: &[u8], kind: Kind, lengths: &[u32], bytes: &[u8], records: &mut [u32])
-    requires succeeds { Succeeds (file_parts kind file.now) }
+// Stores the record at each listed name that is equal to `name`. The lengths cut the listed names from the bytes.
+fn put_record(name: &[u8], r: Record, lengths: &[u32], bytes: &[u8], records: &mut [u32])
     requires listed_room { ListedRoom lengths.now bytes.now records.old }
-    ensures { AllPut kind file.now lengths.now bytes.now records.old records.new }
+    requires levels_have_bits { LevelsHaveBits r }
+    ensures { records.new ≡ with_record name.now (surface_of r) (pieces lengths.now bytes.now) records.old }
 {
-    let heads = [0u16; 1];
-    let links = [0u16; 1];
-    put_surfaces(
-        file,
-        kind,
-        lengths,
-        bytes,
-        0,
-        &lengths[..0],
-        &heads[..0],
-        &links[..0],
-        records,
-    );
+    let mut i = 0;
+    let mut at = 0;
+    while i < lengths.len() {
+        let end = at + lengths[i] as usize;
+        if same_bytes(&bytes[at..end], name) {
+            store(records, i, r);
+        }
+        i += 1;
+        at = end;
+    }
 }
 
-// The records of a block of names, which are all different. Its multiplier comes from all of its names.
-fn fill_block(file: &[u8], kind: Kind, lengths: &[u32], bytes: &[u8], records: &mut [u32]) -> usize
-    requires succeeds { Succeeds (file_parts kind file.now) }
+// Stores a chunk's record at its name, where the chunk is a SURF. The name is the string that its body starts with.
+fn put_chunk(s: &[u8], kind: Kind, tag: u32, lengths: &[u32], bytes: &[u8], records: &mut [u32])
+    requires chunk_sound { ChunkSound kind tag s.now }
     requires listed_room { ListedRoom lengths.now bytes.now records.old }
-    requires short_names { ShortNames lengths.now bytes.now × Different (pieces lengths.now bytes.now) }
-    ensures value { result ≡ sum lengths.now }
-    ensures all_put { AllPut kind file.now lengths.now bytes.now records.old records.new }
+    ensures { SurfacesPut kind tag s.now lengths.now bytes.now records.old records.new }
 {
-    let end = total(lengths);
-    let multiplier = multiplier_of(&bytes[..end]);
-    let mut places = [0u32; 8192];
-    let mut heads = [0u16; 16384];
-    let mut links = [0u16; 8192];
-    hold(
-        lengths,
-        bytes,
-        multiplier,
-        &mut places,
-        &mut heads,
-        &mut links,
-    );
-    let m = lengths.len();
-    put_surfaces(
-        file,
-        kind,
-        lengths,
-        bytes,
-        multiplier,
-        &places[..m],
-        &heads,
-        &links,
-        records,
-    );
-    end
+    if tag != SURF {
+        return;
+    }
+    let c = Cursor { at: 8 };
+    let Text::Got(n, _) = c.string(s) else {
+        return;
+    };
+    let r = record_of(s, kind);
+    put_record(&s[8..8 + n], r, lengths, bytes, records);
 }
 
-// Each name first has the record of a name with no SURF. Whole blocks come first, and then the names that are left.
+// Each name first has the record of a name with no SURF. The SURFs are then stored in file order, so the last one of a name stands.
 pub fn fill_records(
     file: &[u8],
     kind: Kind,
@@ -85,31 +61,12 @@ pub fn fill_records(
     ensures { FilePut (file_records kind) kind file.now records.old records.new }
 {
     put_missing(records, count);
-    if count <= FEW {
-        fill_few(file, kind, &lengths[..count], bytes, records);
-        return;
+    let mut at = 12;
+    while at < file.len() {
+        let Header::Got { tag, end, next } = chunk_at(file, Cursor { at }) else {
+            return;
+        };
+        put_chunk(&file[at..end], kind, tag, &lengths[..count], bytes, records);
+        at = next.at;
     }
-    let mut i = 0;
-    let mut at = 0;
-    while ROOM <= count - i {
-        let next = i + ROOM;
-        let first = i * RECORD_WORDS;
-        let n = fill_block(
-            file,
-            kind,
-            &lengths[i..next],
-            &bytes[at..],
-            &mut records[first..],
-        );
-        i = next;
-        at += n;
-    }
-    let first = i * RECORD_WORDS;
-    fill_block(
-        file,
-        kind,
-        &lengths[i..count],
-        &bytes[at..],
-        &mut records[first..],
-    );
 }

@@ -12,7 +12,7 @@ use Rattle.format.specs.declared.Fault.TheVariants.{StringOpen, BadName}
 use Rattle.format.specs.Bytes.{sum}
 use Rattle.format.specs.Items.{fine, fault, ◌and_then◌, ◌>>=◌, give}
 use Rattle.format.specs.Mesh.{Name}
-use Rattle.format.specs.Bodies.{name_list, new_name, name, names_after, names_body}
+use Rattle.format.specs.Bodies.{name_list, name, names_after, names_body}
 use Rattle.format.specs.Rules.{added}
 use Rattle.format.specs.Promises.{keep, itself, got, Says, Judged}
 use Rattle.format.proofs.ReaderSteps.{exactly, stopped, good, bad, cut, keep_keep, keep_same, used_up, faulty}
@@ -20,8 +20,8 @@ use Rattle.wire.specs.declared.cursor.Cursor.{Cursor}
 use Rattle.wire.specs.declared.cursor.Text.{Text}
 use Rattle.wire.specs.Promises.{TextAt}
 use Rattle.wire.proofs.Items.{inside}
-use Rattle.validate_lists.specs.Promises.{Chain, done, name_sizes}
-use Rattle.validate_lists.proofs.StringChains.{snoc}
+use Rattle.validate_lists.specs.Promises.{Chain, done, NewName, name_sizes}
+use Rattle.validate_lists.proofs.EarlierNames.{snoc}
 
 abbrev more : ℕ → ℕ → List Name → ℕ × ℕ
 more c b ns = (c + length ns, b + sum (map length ns))
@@ -79,16 +79,16 @@ module _ {s : List ℕ} {at c b : ℕ} (w : NamesCounted s at c b) where
     unended r = stop (cut _ _ r.reads.says)
 
     module _ {n : ℕ} {next : Cursor} (r : TextAt s at (Text.Got n next)) where
-      pub refused : new_name w.earlier (take n (drop at s)) ≡ false → Judged names_body name_sizes s (fault BadName at)
+      pub refused : NewName s at n false → Judged names_body name_sizes s (fault BadName at)
       unfolding name
-      refused new = stop (bad _ _ r.reads.says new)
+      refused new = stop (bad _ _ r.reads.says (sym (new.is w.earlier w.chain)))
 
-      pub turn : new_name w.earlier (take n (drop at s)) ≡ true → NamesCounted s next.at (c + 1) (b + n)
+      pub turn : NewName s at n true → NamesCounted s next.at (c + 1) (b + n)
       unfolding name ◌>>=◌ ◌and_then◌ sum
       turn new =
           let x = take n (drop at s) in
           let i = inside r in
-          let ok : Says (name w.earlier) itself s at (got s x next.at) = good _ _ r.reads.says new in
+          let ok : Says (name w.earlier) itself s at (got s x next.at) = good _ _ r.reads.says (sym (new.is w.earlier w.chain)) in
           let v = names_after (w.fuel - 1) (w.earlier ++ (x ∷ [])) next.at (drop next.at s) in
           let same_sizes : (ns : List Name) → more c b (x ∷ ns) ≡ more (c + 1) (b + n) ns = λ ns. pair (omega arith) (omega (arith, i.2)) in
           record {

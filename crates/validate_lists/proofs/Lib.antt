@@ -1,4 +1,3 @@
 mod Floats
-mod StringChains
-mod BlockPass
+mod EarlierNames
 mod CountedNames

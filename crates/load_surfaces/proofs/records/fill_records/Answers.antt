@@ -1,108 +1,70 @@
--- The names before number i have their last record, and those from it on the record of a name with no SURF (`RecordBlocks`).
-use Prim.Native.Nat.{◌+◌, ◌≤◌}
+-- The records are as the SURFs that were passed leave them, from those of names with no SURF on (`SurfacesWalk`).
+use Prim.Native.Nat.{ℕ, ◌-◌}
 use mathlib.Core.Path.{sym, ◌∙◌}
+use mathlib.Core.List.{List}
 use native.Mathlib.Omega.{arith}
 use lib.Seq.{length-take-le}
-use borrow.Author.Rules.{rules}
-use Rattle.load_surfaces.proofs.RecordBlocks.{all_missing, file_sound, left_over, same_long, records_room, all_room, count_in, few_stored, lengths_in, these_room, these_short, these_different, these_bytes, these_stored, all_stored}
+use Rattle.headers.specs.declared.Header.{Header}
+use Rattle.headers.specs.Promises.{HeaderAt}
+use Rattle.headers.proofs.FileWalk as walk
+use Rattle.load_surfaces.proofs.SurfacesWalk.{all_missing_first, kept, listed_room, turn, all_stored}
+use Rattle.load_surfaces.proofs.records.fill_records.Goals.{In-Got}
 use Rattle.load_surfaces.proofs.records.fill_records.Goals as goal
 
-pub slice_bounds-fill_few-end : goal.slice_bounds-fill_few-end
-slice_bounds-fill_few-end c = sym (length-take-le _ _ (count_in (all_missing c.requires c.put_missing.ensures)))
+-- the chunk of this turn
+abbrev file : In-Got → List ℕ
+file x = x.args.file.now
 
-pub fill_few-requires : goal.fill_few-requires
-fill_few-requires c = let w = all_missing c.requires c.put_missing.ensures in record { succeeds = file_sound w; listed_room = all_room w }
+abbrev place : In-Got → ℕ
+place x = x.loop-at.at
 
-pub returns-then-count-le-FEW : goal.returns-then-count-le-FEW
-returns-then-count-le-FEW c =
-    let m = c.put_missing.ensures in
-    few_stored (all_missing c.requires m) c.fill_few.ensures m
+header : (x : In-Got)
+    → HeaderAt 4 (file x) (place x) (Header.Got x.in-Got.tag x.in-Got.end x.in-Got.next)
+header x = rw x.in-Got.is at x.chunk_at.ensures
 
-pub loop-i-init : goal.loop-i-init
-loop-i-init c = all_missing c.requires c.put_missing.ensures
+pub put_missing-requires : goal.put_missing-requires
+put_missing-requires c = c.requires.fits
 
-pub overflow_sub-count : goal.overflow_sub-count
-overflow_sub-count c = omega (arith, left_over c.loop-i.invariant)
+pub loop-at-init : goal.loop-at-init
+loop-at-init c =
+    all_missing_first c.requires c.put_missing.auto.table c.put_missing.ensures
 
--- ---- a whole block
-pub slice_bounds-fill_block-end : goal.slice_bounds-fill_block-end
-slice_bounds-fill_block-end c = lengths_in c.loop-i.invariant (omega arith) (omega (arith, c.loop-i-test.true))
+pub shape_of-records-in_default : goal.shape_of-records-in_default
+shape_of-records-in_default c = kept c.loop-at.invariant ∙ c.put_missing.auto.table
 
-pub slice_bounds-fill_block-count-in-loop-i-2 : goal.slice_bounds-fill_block-count-in-loop-i-2
-slice_bounds-fill_block-count-in-loop-i-2 c = records_room c.loop-i.invariant
+pub returns-in_default : goal.returns-in_default
+returns-in_default c =
+    absurd (walk.never_bad c.loop-at.invariant.walked c.loop-at-test.true (rw c.in_default.is at c.chunk_at.ensures))
 
-pub slice_bounds-fill_block-start-in-loop-i-2 : goal.slice_bounds-fill_block-start-in-loop-i-2
-slice_bounds-fill_block-start-in-loop-i-2 c = records_room c.loop-i.invariant
+pub slice_bounds-put_chunk-end-in-loop-at : goal.slice_bounds-put_chunk-end-in-loop-at
+slice_bounds-put_chunk-end-in-loop-at c = let k = c.loop-at.invariant in sym (length-take-le _ _ k.names_held.few)
 
-pub fill_block-n-requires : goal.fill_block-n-requires
-fill_block-n-requires c =
-    let l = c.loop-i in
-    let w = l.invariant in
-    let from : l.i ≤ l.i + 8192 = omega arith in
-    let to : l.i + 8192 ≤ c.args.count = omega (arith, c.loop-i-test.true) in
-    record { succeeds = file_sound w; listed_room = these_room w from to; short_names = (these_short w from to (omega arith), these_different w from to) }
+pub put_chunk-requires : goal.put_chunk-requires
+put_chunk-requires c =
+    let k = c.loop-at.invariant in
+    let this = walk.chunk_here k.walked (header (goal.at.put_chunk-requires c).In-Got) in
+    record { chunk_sound = record { before = k.walked.before; part = this.part; sound = this.here }; listed_room = listed_room k }
 
-pub overflow_add-at : goal.overflow_add-at
-overflow_add-at c =
-    let l = c.loop-i in
-    let from : l.i ≤ l.i + 8192 = omega arith in
-    let to : l.i + 8192 ≤ c.args.count = omega (arith, c.loop-i-test.true) in
-    let fits = these_bytes l.invariant from to c.fill_block-n.ensures.value in
-    search (rules, fits)
+pub loop-at-smaller : goal.loop-at-smaller
+loop-at-smaller c =
+    omega (arith, (header (goal.at.loop-at-smaller c).In-Got).inside, c.loop-at-test.true)
 
-pub loop-i-preserved : goal.loop-i-preserved
-loop-i-preserved c =
-    let l = c.loop-i in
-    let from : l.i ≤ l.i + 8192 = omega arith in
-    let to : l.i + 8192 ≤ c.args.count = omega (arith, c.loop-i-test.true) in
-    these_stored l.invariant from to c.fill_block-n.ensures.value c.fill_block-n.ensures.all_put
-
--- ---- the names that are left
-pub overflow_mul-first-2 : goal.overflow_mul-first-2
-overflow_mul-first-2 c =
-    let few : c.loop-i.i ≤ c.args.count = omega (arith, left_over c.loop-i.invariant) in
-    search (rules, few)
-
-pub slice_bounds-fill_block-count-2 : goal.slice_bounds-fill_block-count-2
-slice_bounds-fill_block-count-2 c = omega (arith, left_over c.loop-i.invariant)
-
-pub slice_bounds-fill_block-start-2 : goal.slice_bounds-fill_block-start-2
-slice_bounds-fill_block-start-2 c = omega (arith, left_over c.loop-i.invariant)
-
-pub slice_bounds-fill_block-end-2 : goal.slice_bounds-fill_block-end-2
-slice_bounds-fill_block-end-2 c = let w = c.loop-i.invariant in lengths_in w (omega (arith, left_over w)) (omega arith)
-
-pub offset_bounds-records-first-2 : goal.offset_bounds-records-first-2
-offset_bounds-records-first-2 c =
-    let few : c.loop-i.i ≤ c.args.count = omega (arith, left_over c.loop-i.invariant) in
-    search (rules, few)
-
-pub slice_bounds-fill_block-count-4 : goal.slice_bounds-fill_block-count-4
-slice_bounds-fill_block-count-4 c = records_room c.loop-i.invariant
-
-pub slice_bounds-fill_block-start-4 : goal.slice_bounds-fill_block-start-4
-slice_bounds-fill_block-start-4 c = records_room c.loop-i.invariant
-
-pub fill_block-requires : goal.fill_block-requires
-fill_block-requires c =
-    let l = c.loop-i in
-    let w = l.invariant in
-    let from : l.i ≤ c.args.count = omega (arith, left_over w) in
-    let to : c.args.count ≤ c.args.count = omega arith in
-    record { succeeds = file_sound w; listed_room = these_room w from to; short_names = (these_short w from to (omega (arith, c.loop-i-test.false)), these_different w from to) }
+pub loop-at-preserved : goal.loop-at-preserved
+loop-at-preserved c =
+    let k = c.loop-at.invariant in
+    turn k (walk.chunk_here k.walked (header (goal.at.loop-at-preserved c).In-Got)) c.put_chunk.ensures
 
 pub shape_of-records : goal.shape_of-records
-shape_of-records c =
-    let l = c.loop-i in
-    let w = l.invariant in
-    let from : l.i ≤ c.args.count = omega (arith, left_over w) in
-    let to : c.args.count ≤ c.args.count = omega arith in
-    same_long (these_stored w from to c.fill_block.ensures.value c.fill_block.ensures.all_put) ∙ c.put_missing.auto.table
+shape_of-records c = kept c.loop-at.invariant ∙ c.put_missing.auto.table
 
 pub returns : goal.returns
-returns c =
-    let l = c.loop-i in
-    let w = l.invariant in
-    let from : l.i ≤ c.args.count = omega (arith, left_over w) in
-    let to : c.args.count ≤ c.args.count = omega arith in
-    all_stored (these_stored w from to c.fill_block.ensures.value c.fill_block.ensures.all_put) (omega arith) c.put_missing.ensures
+returns c = all_stored c.loop-at.invariant c.loop-at-test.false c.put_missing.ensures
+
+pub slice_bounds-put_chunk-count : goal.slice_bounds-put_chunk-count
+slice_bounds-put_chunk-count c = omega (arith, (header (goal.at.slice_bounds-put_chunk-count c).In-Got).inside)
+
+pub slice_bounds-put_chunk-start : goal.slice_bounds-put_chunk-start
+slice_bounds-put_chunk-start c = omega (arith, (header (goal.at.slice_bounds-put_chunk-start c).In-Got).inside)
+
+pub slice_bounds-put_chunk-end : goal.slice_bounds-put_chunk-end
+slice_bounds-put_chunk-end c = omega (arith, (header (goal.at.slice_bounds-put_chunk-end c).In-Got).inside)

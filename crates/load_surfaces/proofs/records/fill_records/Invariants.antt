@@ -1,10 +1,11 @@
--- The names before number i have their last record, and those from it on the record of a name with no SURF (`RecordBlocks`).
+-- The records are as the SURFs that were passed leave them, from those of names with no SURF on (`SurfacesWalk`).
 use Prim.Native.Nat.{◌-◌}
-use Rattle.load_surfaces.proofs.RecordBlocks.{BlocksTo}
+use lib.ListN.{length}
+use Rattle.load_surfaces.proofs.SurfacesWalk.{RecordsTo}
 use Rattle.load_surfaces.proofs.records.fill_records.Given as goal
 
-abbrev pub invariant-loop-i : goal.invariant-loop-i
-invariant-loop-i l = BlocksTo l.kind l.file l.count l.lengths l.bytes l.initial.records l.i l.at l.records
+abbrev pub invariant-loop-at : goal.invariant-loop-at
+invariant-loop-at l = RecordsTo l.kind l.file l.count l.lengths l.bytes l.initial.records l.at l.records
 
-abbrev pub decreases-loop-i : goal.decreases-loop-i
-decreases-loop-i l = l.count - l.i
+abbrev pub decreases-loop-at : goal.decreases-loop-at
+decreases-loop-at l = length l.file - l.at
