@@ -100,13 +100,12 @@ uint32_t lwo_version(void);
 #define LWO_NAME_BYTES 255      /* the longest name */
 
 /*
- * The stack that a call of either function takes at most, in bytes: under 100 KiB,
- * and it does not grow with the file. Most of it are the names at hand, by which a
- * list is seen to have no name twice: places and lengths of up to 8,192 names, and an
- * index of them. Measured over generated files of every kind up to the longest:
- * lwo_read took 83,792 bytes and lwo_write 85,704.
+ * The stack that a call of either function takes at most, in bytes; it does not
+ * grow with the file. Measured over generated files of every kind up to the
+ * longest: lwo_read took 1,512 bytes and lwo_write 3,528, most of them for the
+ * dynamic linker, which looks up memcpy where it is called for the first time.
  */
-#define LWO_STACK_BYTES 102400
+#define LWO_STACK_BYTES 16384
 
 /* Words of an entry. */
 #define LWO_POINT_WORDS 3

@@ -13,7 +13,7 @@ pub struct Work {
 
 impl Work {
     /// A file whose mesh is what the second program reads from it.
-    pub fn of_file(name: String, file: Vec<u8>) -> Work {
+    fn of_file(name: String, file: Vec<u8>) -> Work {
         let needs = second::read(&file, &mut Tables::default());
         let mut mesh = Tables::with_room(
             needs.points as usize,
@@ -112,6 +112,20 @@ pub fn lwob_grid(side: usize) -> Work {
     Work::of_file(name, form(Kind::Lwob, &join(&chunks)))
 }
 
+/// 2,000 names of so many bytes in TAGS, no two with the same first two bytes.
+pub fn name_list(length: usize) -> Work {
+    let names: Vec<Vec<u8>> = (0..2_000u32)
+        .map(|number| {
+            let mut name = vec![b'n'; length];
+            name[0] = 1 + (number / 250) as u8;
+            name[1] = 1 + (number % 250) as u8;
+            string(&name)
+        })
+        .collect();
+    let file = form(Kind::Lwo2, &chunk(b"TAGS", &join(&names)));
+    Work::of_file(format!("2,000 names of {length} bytes"), file)
+}
+
 #[cfg(test)]
 mod tests {
     use super::*;
@@ -138,5 +152,13 @@ mod tests {
         mesh.records = work.mesh.records.clone();
         assert_eq!(work.mesh, mesh);
         assert_eq!(work.mesh.records[0], 0);
+    }
+
+    #[test]
+    fn names_differ_in_their_first_two_bytes() {
+        for length in [2, 250] {
+            let work = name_list(length);
+            assert_eq!(work.mesh.names, vec![length as u32; 2_000]);
+        }
     }
 }

@@ -2,10 +2,9 @@
 
 use std::hint::black_box;
 
-use crate::inputs::{lwo2_grid, lwob_grid, Work};
+use crate::inputs::{lwo2_grid, lwob_grid, name_list, Work};
 use crate::library;
 use crate::measure::{empty_like, swap_in};
-use crate::names::{name_list, LONG, SHORT};
 use crate::report::{LWO2_BYTES, LWOB_SIDE};
 
 /// Does the task of this name, if there is one.
@@ -13,8 +12,8 @@ pub fn run(task: &str) -> Option<()> {
     match task {
         "read-lwo2" => read(&lwo2_grid(LWO2_BYTES)),
         "read-lwob" => read(&lwob_grid(LWOB_SIDE)),
-        "read-names-250" => read(&name_list(LONG)),
-        "read-names-2" => read(&name_list(SHORT)),
+        "read-names-250" => read(&name_list(250)),
+        "read-names-2" => read(&name_list(2)),
         "write-lwo2" => write(&lwo2_grid(LWO2_BYTES)),
         "second-read-lwo2" => second_read(&lwo2_grid(LWO2_BYTES)),
         "second-read-lwob" => second_read(&lwob_grid(LWOB_SIDE)),

@@ -2,7 +2,7 @@
 
 use std::time::Duration;
 
-use crate::inputs::{lwo2_grid, lwob_grid, Work};
+use crate::inputs::{lwo2_grid, lwob_grid, name_list, Work};
 use crate::measure::{read, read_all, write, Times};
 
 /// The LWO2 grid of the first table.
@@ -20,12 +20,17 @@ const SMALL_ROUNDS: u32 = 100;
 const LENGTHS: [usize; 5] = [1 << 20, 2 << 20, 4 << 20, 8 << 20, 16 << 20];
 
 /// Measures everything and prints it.
-pub fn print(rounds: u32) -> Result<(), String> {
+pub fn print(rounds: u32, names: bool) -> Result<(), String> {
     println!("best of {rounds} rounds; tables and output cleared (touched) before each call");
     println!();
     print_ratios(rounds)?;
     println!();
-    print_growth(rounds)
+    print_growth(rounds)?;
+    if names {
+        println!();
+        print_names(rounds)?;
+    }
+    Ok(())
 }
 
 fn print_ratios(rounds: u32) -> Result<(), String> {
@@ -77,10 +82,37 @@ fn print_growth(rounds: u32) -> Result<(), String> {
     Ok(())
 }
 
-pub fn milliseconds(time: Duration) -> f64 {
+/// Request #104: the long names in under five times the time of the short.
+fn print_names(rounds: u32) -> Result<(), String> {
+    let works = [250, 2].map(name_list);
+    let best = read_all(&works, rounds)?;
+    println!(
+        "{:32} {:>10} {:>10} {:>10}",
+        "read, by names", "bytes", "proved ms", "second ms"
+    );
+    for (work, times) in works.iter().zip(&best) {
+        println!(
+            "{:32} {:>10} {:>10.3} {:>10.3}",
+            work.name,
+            times.bytes,
+            milliseconds(times.proved),
+            milliseconds(times.second),
+        );
+    }
+    println!(
+        "{:32} {:>10} {:>10.2} {:>10.2}",
+        "250 bytes to 2 bytes",
+        "",
+        ratio(best[0].proved, best[1].proved),
+        ratio(best[0].second, best[1].second),
+    );
+    Ok(())
+}
+
+fn milliseconds(time: Duration) -> f64 {
     time.as_secs_f64() * 1e3
 }
 
-pub fn ratio(time: Duration, to: Duration) -> f64 {
+fn ratio(time: Duration, to: Duration) -> f64 {
     time.as_secs_f64() / to.as_secs_f64()
 }

@@ -28,13 +28,7 @@ struct State {
 /// LAYR in any order that the rules allow.
 pub fn valid(random: &mut Random) -> Valid {
     let most = random.index(7);
-    let names = names::listed(random, most);
-    with_names(random, names)
-}
-
-/// The same with these names, which may be listed in the file or not.
-pub fn with_names(random: &mut Random, names: Vec<Vec<u8>>) -> Valid {
-    let mut draft = Draft::new(Kind::Lwo2, names);
+    let mut draft = Draft::new(Kind::Lwo2, names::listed(random, most));
     let mut state = State::default();
     // As modellers write it, the names come first.
     if random.once_in(2) {

@@ -27,20 +27,6 @@ pub fn mesh(random: &mut Random) -> PlainMesh {
     mesh
 }
 
-/// A random mesh with many names.
-pub fn mesh_with_many_names(random: &mut Random) -> PlainMesh {
-    let mut mesh = PlainMesh::default();
-    let points = 1 + random.index(10);
-    add_points(random, &mut mesh, points);
-    for name in names::many_listed(random) {
-        let record = record(random);
-        mesh.add_name(&name, &record);
-    }
-    let polygons = random.below(16);
-    add_polygons(random, &mut mesh, polygons);
-    mesh
-}
-
 /// A random mesh in which every table has at least two entries, with a defined
 /// and an undefined record, and polygons with a surface and a part, with
 /// neither, and with a part alone.

@@ -30,20 +30,6 @@ pub fn valid(random: &mut Random) -> Valid {
     }
 }
 
-/// A random valid file of either kind that lists many names.
-pub fn valid_with_many_names(random: &mut Random) -> Valid {
-    loop {
-        let names = names::many_listed(random);
-        let one = match random.once_in(2) {
-            true => lwob::with_names(random, names),
-            false => lwo2::with_names(random, names),
-        };
-        if !one.mesh.names.is_empty() {
-            return one;
-        }
-    }
-}
-
 /// A file that is being put together.
 pub struct Draft {
     parts: Parts,

@@ -2,11 +2,11 @@
 
 use std::sync::OnceLock;
 
-use cases::insert::{boundaries, with_unlisted};
+use cases::insert::{boundaries, chunk_spans, with_unlisted};
 use cases::mutate::mutated;
 use cases::random::Random;
-use cases::valid::{valid, valid_with_many_names};
-use cases::{accepted, boundary, name_lists, targeted};
+use cases::valid::valid;
+use cases::{accepted, boundary, targeted};
 
 use crate::damage::damaged;
 use crate::hexadecimal;
@@ -16,9 +16,6 @@ const READINGS: &str = include_str!("../../second/tests/readings.txt");
 
 /// The sample file of source 000.
 const SAMPLE: &str = include_str!("../../second/tests/sample-000.hex");
-
-/// Of so many generated files and meshes one has many names: each takes long.
-pub const MANY_NAMES: u64 = 1_000;
 
 /// A file and what it is called.
 pub struct Named {
@@ -55,20 +52,34 @@ pub fn fixed() -> Vec<Named> {
     list
 }
 
-/// The files at the bounds of the library, up to the longest one, and with more
-/// names than tags reach.
+/// The files at the bounds of the library, up to the longest one, but for
+/// those with many names.
 pub fn large() -> Vec<Named> {
+    let mut list = at_bounds();
+    list.retain(|one| !has_many_names(&one.file));
+    list
+}
+
+/// The files at the bounds with tens of thousands of names. A reader that
+/// compares each name with every earlier one takes long over each.
+pub fn many_names() -> Vec<Named> {
+    let mut list = at_bounds();
+    list.retain(|one| has_many_names(&one.file));
+    list
+}
+
+fn at_bounds() -> Vec<Named> {
     let list = boundary::large().into_iter();
     list.map(|one| named(format!("bound {}", one.name), one.file))
         .collect()
 }
 
-/// The files with lists of many names, at the edges of the blocks that a reader may
-/// take them in.
-pub fn many_names() -> Vec<Named> {
-    let list = name_lists::files().into_iter();
-    list.map(|one| named(format!("names {}", one.name), one.file))
-        .collect()
+/// Whether a list of names is longer than 50,000 bytes.
+fn has_many_names(file: &[u8]) -> bool {
+    chunk_spans(file).into_iter().any(|span| {
+        let tag = &file[span.start..span.start + 4];
+        (tag == b"TAGS" || tag == b"SRFS") && span.len() > 50_000
+    })
 }
 
 fn reading(line: &str) -> Vec<u8> {
@@ -86,10 +97,7 @@ pub fn generated(seed: u64, number: u64) -> Named {
         let file = random.pick(group).clone();
         return named("damaged targeted", damaged(random, file));
     }
-    let one = match random.once_in(MANY_NAMES) {
-        true => valid_with_many_names(random),
-        false => valid(random),
-    };
+    let one = valid(random);
     let kind = one.parts.kind.word();
     match random.below(8) {
         0 | 1 => named(format!("valid {kind}"), one.parts.file()),
@@ -147,6 +155,15 @@ mod tests {
         assert_eq!(of("bound "), boundary::small().len());
         assert_eq!(of("reading "), 84);
         assert_eq!(of("sample "), 1);
+    }
+
+    #[test]
+    fn the_files_at_the_bounds_are_all_there() {
+        let (large, names) = (large().len(), many_names().len());
+        assert_eq!(large + names, boundary::large().len());
+        // Two counts of tags that are enough, one that is not for a surface and
+        // for a part, and three of surfaces.
+        assert_eq!(names, 2 + 2 + 3);
     }
 
     #[test]

@@ -12,15 +12,17 @@ use second::Tables;
 const HELP: &str = "\
 differ: compares the proved library with the second program
 
-usage: differ --seed S [--files N] [--meshes M] [--seconds T] [--first K] [--say]
+usage: differ --seed S [--files N] [--meshes M] [--seconds T] [--first K]
+              [--many-names] [--say]
 
 Reads every fixed file and N generated ones, and writes every fixed mesh and M
-generated ones, those with tens of thousands of names too, with the library and
-with the second program, in many rooms: whole answers, every word of every
-table, all output, and the words on both sides. The generated ones are numbered
-from K, else from 0. With --seconds the run ends after that time, and with
-neither --files nor --meshes not earlier. With --say each case is named before
-it is run, so that one which ends the program is known.
+generated ones, with the library and with the second program, in many rooms:
+whole answers, every word of every table, all output, and the words on both
+sides. The generated ones are numbered from K, else from 0. With --seconds the
+run ends after that time, and with neither --files nor --meshes not earlier.
+With --many-names the fixed ones have those with tens of thousands of names
+too. With --say each case is named before it is run, so that one which ends
+the program is known.
 
 Prints one line of counts and the time. At the first case on which the two
 differ it prints that case, made small, as hexadecimal digits, with what
@@ -33,6 +35,7 @@ struct Order {
     files: u64,
     meshes: u64,
     until: Option<Duration>,
+    many_names: bool,
     say: bool,
 }
 
@@ -68,7 +71,7 @@ fn main() -> ExitCode {
 
 fn order(arguments: &[String]) -> Option<Order> {
     let (mut seed, mut first) = (None, 0);
-    let mut say = false;
+    let (mut many_names, mut say) = (false, false);
     let (mut files, mut meshes, mut seconds) = (None, None, None);
     let mut words = arguments.iter();
     while let Some(word) = words.next() {
@@ -79,6 +82,7 @@ fn order(arguments: &[String]) -> Option<Order> {
             "--files" => files = Some(number()?),
             "--meshes" => meshes = Some(number()?),
             "--seconds" => seconds = Some(number()?),
+            "--many-names" => many_names = true,
             "--say" => say = true,
             _ => return None,
         }
@@ -95,6 +99,7 @@ fn order(arguments: &[String]) -> Option<Order> {
         files: files.unwrap_or(unsaid),
         meshes: meshes.unwrap_or(unsaid),
         until: seconds.map(Duration::from_secs),
+        many_names,
         say,
     })
 }
@@ -124,13 +129,17 @@ fn run_fixed(order: &Order) -> Result<Counts, Disagreement> {
     let mut counts = Counts::default();
     let mut list = files::fixed();
     list.extend(files::large());
-    list.extend(files::many_names());
+    if order.many_names {
+        list.extend(files::many_names());
+    }
     for one in list {
         counts.add(&check_file(order, &one.name, one.file)?);
     }
     let mut list = meshes::fixed();
     list.extend(meshes::large());
-    list.extend(meshes::many_names());
+    if order.many_names {
+        list.extend(meshes::many_names());
+    }
     for one in list {
         counts.add(&check_mesh(order, &one.name, one.tables)?);
     }

@@ -2,15 +2,13 @@
 //! each seed and number.
 
 use cases::meshes::{
-    at_bounds, at_file_limit, damaged, long_indices, mesh, mesh_with_many_names,
-    parts_at_file_limit, rich_mesh,
+    at_bounds, at_file_limit, damaged, long_indices, mesh, parts_at_file_limit, rich_mesh,
 };
-use cases::name_lists;
 use cases::plain::PlainMesh;
 use cases::random::Random;
 use second::Tables;
 
-use crate::files::{mixed, MANY_NAMES};
+use crate::files::mixed;
 
 /// Tables, be they a mesh or not, and what they are called.
 pub struct Named {
@@ -68,30 +66,19 @@ pub fn large() -> Vec<Named> {
 }
 
 /// Meshes with more names than tags reach, whose last name is the highest that
-/// may be a surface and a part, and one past it; and meshes with names at the edges
-/// of blocks, all of them different or two equal.
+/// may be a surface and a part, and one past it.
 pub fn many_names() -> Vec<Named> {
     let of = |name: &str, surface, part| named(name, cases::meshes::many_names(surface, part));
-    let mut list = vec![
+    vec![
         of("surface and part 65,536", 65_536, 65_536),
         of("surface 65,537", 65_537, 65_536),
         of("part 65,537", 65_536, 65_537),
-    ];
-    let lists = name_lists::meshes().into_iter();
-    list.extend(lists.map(|one| named(one.name, one.mesh)));
-    list
+    ]
 }
 
 /// The mesh of this number for a seed, whole or damaged.
 pub fn generated(seed: u64, number: u64) -> Named {
     let random = &mut Random::new(mixed(!seed, number));
-    if random.once_in(MANY_NAMES) {
-        let mut one = named("many names", mesh_with_many_names(random));
-        if random.once_in(2) {
-            change_bytes(random, &mut one.tables.name_bytes);
-        }
-        return one;
-    }
     match random.below(5) {
         0 | 1 => named("whole", mesh(random)),
         2 => named("rich", rich_mesh(random)),
@@ -175,7 +162,7 @@ mod tests {
     /// ones that are none for it.
     #[test]
     fn generated_ones_have_parts() {
-        let all: Vec<Named> = (0..900).map(|number| generated(1, number)).collect();
+        let all: Vec<Named> = (0..500).map(|number| generated(1, number)).collect();
         let times = |holds: &dyn Fn(&Named) -> bool| all.iter().filter(|one| holds(one)).count();
         let entries = |one: &Named, holds: fn(&[u32]) -> bool| {
             let mut entries = one.tables.polygons.chunks_exact(POLYGON_WORDS);

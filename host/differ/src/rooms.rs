@@ -20,10 +20,8 @@ pub const TABLES: [&str; 6] = [
 /// The words of an entry of each table.
 const ENTRY_WORDS: Lengths = [POINT_WORDS, POLYGON_WORDS, 1, 1, 1, RECORD_WORDS];
 
-/// Longer files, and files with more names, are read with fewer rooms, because each
-/// reading takes long.
+/// Longer files are read with fewer rooms, because each reading takes long.
 const LONG_FILE: usize = 200_000;
-const MANY_NAMES: u64 = 1_000;
 
 /// The number of NO ROOM.
 pub const NO_ROOM: u64 = 16;
@@ -50,7 +48,7 @@ pub fn rooms(random: &mut Random, file: &[u8], told: &Answer) -> Vec<Lengths> {
     let exact = exact(told);
     let mut list = vec![[0; 6], exact, exact.map(|words| words + 2)];
     list.push(exact.map(|words| words.saturating_sub(1)));
-    if file.len() <= LONG_FILE && told.names <= MANY_NAMES {
+    if file.len() <= LONG_FILE {
         add_each_table(&mut list, &exact);
         list.push(exact.map(|words| words + 1));
         list.push(exact.map(|words| words + random.index(60)));

@@ -29,8 +29,6 @@ fn what_is_not_understood_is_refused() {
         &["--seed"],
         &["--seed", "x"],
         &["--seed", "1", "--what", "2"],
-        // An option of before: what it asked for is always done.
-        &["--seed", "1", "--many-names"],
     ] {
         let output = differ(words);
         assert_eq!(output.status.code(), Some(2), "{words:?}");

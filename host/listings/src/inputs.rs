@@ -3,7 +3,6 @@
 use cases::accepted::accepted;
 use cases::boundary;
 use cases::files::files;
-use cases::name_lists;
 use cases::targeted::targeted;
 
 /// A name and the bytes.
@@ -25,8 +24,6 @@ pub fn fixed() -> impl Iterator<Item = Input> {
     list.extend(plain_lengths());
     let bounds = boundary::small().into_iter().chain(boundary::large());
     list.extend(bounds.map(|one| (format!("boundary {}", one.name), one.file)));
-    let lists = name_lists::files().into_iter();
-    list.extend(lists.map(|one| (format!("names {}", one.name), one.file)));
     let targets = targeted().into_iter();
     list.extend(targets.map(|one| (format!("targeted {}", one.name), one.file)));
     let good = accepted().into_iter();

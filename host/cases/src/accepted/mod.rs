@@ -43,7 +43,7 @@ pub fn accepted() -> Vec<Accepted> {
 type Sub = (Tag, Vec<u8>);
 
 /// A SURF chunk.
-pub(crate) fn surf(kind: Kind, name: &[u8], subs: &[Sub]) -> Vec<u8> {
+fn surf(kind: Kind, name: &[u8], subs: &[Sub]) -> Vec<u8> {
     let mut body = string(name);
     if kind == Kind::Lwo2 {
         body.extend(string(b"s"));
@@ -54,8 +54,7 @@ pub(crate) fn surf(kind: Kind, name: &[u8], subs: &[Sub]) -> Vec<u8> {
     chunk(b"SURF", &body)
 }
 
-/// What these sub-chunks give.
-pub(crate) fn record(kind: Kind, subs: &[Sub]) -> PlainRecord {
+fn record(kind: Kind, subs: &[Sub]) -> PlainRecord {
     match kind {
         Kind::Lwob => lwob::record(subs),
         Kind::Lwo2 => lwo2::record(subs),

@@ -172,10 +172,11 @@ fn a_parent_of_another_length() {
 /// "in LWOB it stays both" skipped and unlisted.
 #[test]
 fn one_that_is_listed_in_lwob() {
-    let lwob: TakeFn = |file, chunk, found| match is_layer(chunk) {
-        true => lwo2::take(file, chunk, found),
-        false => lwob::take(file, chunk, found),
-    };
-    let lwo2: TakeFn = lwo2::take;
-    must_say(found_in_fixed(&Reader { lwob, lwo2 }));
+    must_say(found_in_fixed(&Reader {
+        lwob: |file, chunk, found| match is_layer(chunk) {
+            true => lwo2::take(file, chunk, found),
+            false => lwob::take(file, chunk, found),
+        },
+        lwo2: lwo2::take as TakeFn,
+    }));
 }

@@ -3,7 +3,6 @@
 
 mod indices;
 mod layers;
-mod names;
 mod parts;
 mod reader;
 

@@ -26,18 +26,18 @@ impl Take for TakeFn {
 }
 
 /// The second program with its own or other ways to take a chunk.
-pub struct Reader<L, T> {
-    pub lwob: L,
+pub struct Reader<T> {
+    pub lwob: TakeFn,
     pub lwo2: T,
 }
 
 /// A reader that takes LWO2's chunks in another way.
-pub fn of_lwo2<T: Take>(lwo2: T) -> Reader<TakeFn, T> {
+pub fn of_lwo2<T: Take>(lwo2: T) -> Reader<T> {
     let lwob = lwob::take;
     Reader { lwob, lwo2 }
 }
 
-impl<L: Take, T: Take> Reader<L, T> {
+impl<T: Take> Reader<T> {
     /// Takes the chunks of a file that is not refused as a whole.
     fn gather<'a>(&self, file: &'a [u8]) -> Result<Found<'a>, Flaw> {
         let take: &dyn Take = match &file[8..12] {
@@ -55,7 +55,7 @@ impl<L: Take, T: Take> Reader<L, T> {
     }
 }
 
-impl<L: Take, T: Take> Library for Reader<L, T> {
+impl<T: Take> Library for Reader<T> {
     fn read(&self, file: &Guarded<u8>, lent: &mut Lent) -> Answer {
         let right = second::read(file.content(), &mut Tables::default());
         if (1..=3).contains(&right.number) {
