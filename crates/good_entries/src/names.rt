@@ -1,4 +1,4 @@
-// The names: a length each, and their bytes joined. With many names `good_names` takes hours; `is_mesh` asks the crate of that name, which takes them by blocks.
+// The names: a length each, and their bytes joined.
 ghost use Rattle.std.specs.Prelude.{◌≡◌, [], ◌≤◌, length};
 ghost use Rattle.format.specs.Bytes.{amongst, sum};
 ghost use Rattle.format.specs.Written.{pieces, has_no_zero, good_names};
