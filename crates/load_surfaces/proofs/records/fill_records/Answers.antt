@@ -1,5 +1,5 @@
 -- The records are as the SURFs that were passed leave them, from those of names with no SURF on (`SurfacesWalk`).
-use Prim.Native.Nat.{ℕ, ◌-◌}
+use Prim.Native.Nat.{ℕ}
 use mathlib.Core.Path.{sym, ◌∙◌}
 use mathlib.Core.List.{List}
 use native.Mathlib.Omega.{arith}

@@ -1,6 +1,5 @@
 -- The records of the names that were passed are as they will be, and each turn puts or keeps one (`RecordAtNames`).
 use borrow.Author.Rules.{rules}
-use Prim.Native.Nat.{◌-◌}
 use native.Mathlib.Omega.{arith}
 use Rattle.load_surfaces.proofs.RecordAtNames.{begin, end, entry_room, name_room, turn_same, turn_other}
 use Rattle.load_surfaces.proofs.records.put_record.Goals.{then-same_bytes, else-same_bytes}
@@ -29,7 +28,7 @@ loop-i-preserved c =
     let is = c.same_bytes.ensures in (
       k.0,
       elim c.if-same_bytes.branch [
-        then-same_bytes w ↦ rw w.records-is (turn_same k.1 c.loop-i-test.true is w.if-same_bytes.true w.store.ensures)
+        | then-same_bytes w ↦ rw w.records-is (turn_same k.1 c.loop-i-test.true is w.if-same_bytes.true w.store.ensures)
         | else-same_bytes w ↦ rw w.records-is (turn_other k.1 c.loop-i-test.true is w.if-same_bytes.false)
       ],
     )

@@ -1,5 +1,4 @@
 -- The names from p on are left to be compared, and none before p is equal.
-use Prim.Native.Nat.{◌-◌}
 use native.Mathlib.Omega.{arith}
 use borrow.Author.Rules.{rules}
 use Rattle.wire.specs.declared.cursor.Text.{Text}

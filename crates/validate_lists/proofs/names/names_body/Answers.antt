@@ -1,5 +1,4 @@
 -- The names before the place are a chain of strings, and what is counted is theirs.
-use Prim.Native.Nat.{◌-◌}
 use native.Mathlib.Omega.{arith}
 use Rattle.wire.proofs.Items.{inside}
 use Rattle.validate_lists.proofs.CountedNames.{begin, turn, unended, refused, end}
