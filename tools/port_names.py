@@ -26,6 +26,7 @@ QUIET = re.compile(r'--.*$|"[^"\n]*"', re.M)
 EDITS = [
     (re.compile(r"(?<=[\w′'\])]) \.(?=[\w])"), "."),
     (re.compile(r"\bthe-variants\b"), "TheVariants"),
+    (re.compile(r"Rattle·(\w+)(?:·(?:specs|proofs))?\.(specs|proofs)(?:\.\2)?\b"), r"Rattle.\1.\2"),
     (re.compile(r"\((\w+\.\w+)\)"), r"\1"),
     (re.compile(r"′"), "'"),
 ]
