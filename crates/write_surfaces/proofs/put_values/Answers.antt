@@ -21,81 +21,38 @@ module _ (words : List ℕ) (size : length words ≡ record_size) (out : List �
 
 pub put_levels-diffuse-requires : goal.put_levels-diffuse-requires
 unfolding number
-put_levels-diffuse-requires c =
-    let s0 = none c.args.words.now c.requires.0 c.args.out.now c.args.at c.requires.1 in
-    room s0
+put_levels-diffuse-requires c = room (none c.args.words.now c.requires.0 c.args.out.now c.args.at c.requires.1)
 
 pub put_levels-luminosity-requires : goal.put_levels-luminosity-requires
 unfolding number
-put_levels-luminosity-requires c =
-    let s0 = none c.args.words.now c.requires.0 c.args.out.now c.args.at c.requires.1 in
-    let s1 : After c.args.words.now c.requires.0 c.args.out.now c.args.at c.requires.1 1 c.put_levels-diffuse.new.out c.put_levels-diffuse.result = turn s0 c.put_levels-diffuse.ensures in
-    room s1
+put_levels-luminosity-requires c = room (turn (none c.args.words.now c.requires.0 c.args.out.now c.args.at c.requires.1) c.put_levels-diffuse.ensures)
 
 pub put_levels-specular-requires : goal.put_levels-specular-requires
 unfolding number
-put_levels-specular-requires c =
-    let s0 = none c.args.words.now c.requires.0 c.args.out.now c.args.at c.requires.1 in
-    let s1 : After c.args.words.now c.requires.0 c.args.out.now c.args.at c.requires.1 1 c.put_levels-diffuse.new.out c.put_levels-diffuse.result = turn s0 c.put_levels-diffuse.ensures in
-    let s2 : After c.args.words.now c.requires.0 c.args.out.now c.args.at c.requires.1 2 c.put_levels-luminosity.new.out c.put_levels-luminosity.result = turn s1 c.put_levels-luminosity.ensures in
-    room s2
+put_levels-specular-requires c = room (turn (turn (none c.args.words.now c.requires.0 c.args.out.now c.args.at c.requires.1) c.put_levels-diffuse.ensures) c.put_levels-luminosity.ensures)
 
 pub put_levels-reflection-requires : goal.put_levels-reflection-requires
 unfolding number
-put_levels-reflection-requires c =
-    let s0 = none c.args.words.now c.requires.0 c.args.out.now c.args.at c.requires.1 in
-    let s1 : After c.args.words.now c.requires.0 c.args.out.now c.args.at c.requires.1 1 c.put_levels-diffuse.new.out c.put_levels-diffuse.result = turn s0 c.put_levels-diffuse.ensures in
-    let s2 : After c.args.words.now c.requires.0 c.args.out.now c.args.at c.requires.1 2 c.put_levels-luminosity.new.out c.put_levels-luminosity.result = turn s1 c.put_levels-luminosity.ensures in
-    let s3 : After c.args.words.now c.requires.0 c.args.out.now c.args.at c.requires.1 3 c.put_levels-specular.new.out c.put_levels-specular.result = turn s2 c.put_levels-specular.ensures in
-    room s3
+put_levels-reflection-requires c = room (turn (turn (turn (none c.args.words.now c.requires.0 c.args.out.now c.args.at c.requires.1) c.put_levels-diffuse.ensures) c.put_levels-luminosity.ensures) c.put_levels-specular.ensures)
 
 pub put_levels-transparency-requires : goal.put_levels-transparency-requires
 unfolding number
-put_levels-transparency-requires c =
-    let s0 = none c.args.words.now c.requires.0 c.args.out.now c.args.at c.requires.1 in
-    let s1 : After c.args.words.now c.requires.0 c.args.out.now c.args.at c.requires.1 1 c.put_levels-diffuse.new.out c.put_levels-diffuse.result = turn s0 c.put_levels-diffuse.ensures in
-    let s2 : After c.args.words.now c.requires.0 c.args.out.now c.args.at c.requires.1 2 c.put_levels-luminosity.new.out c.put_levels-luminosity.result = turn s1 c.put_levels-luminosity.ensures in
-    let s3 : After c.args.words.now c.requires.0 c.args.out.now c.args.at c.requires.1 3 c.put_levels-specular.new.out c.put_levels-specular.result = turn s2 c.put_levels-specular.ensures in
-    let s4 : After c.args.words.now c.requires.0 c.args.out.now c.args.at c.requires.1 4 c.put_levels-reflection.new.out c.put_levels-reflection.result = turn s3 c.put_levels-reflection.ensures in
-    room s4
+put_levels-transparency-requires c = room (turn (turn (turn (turn (none c.args.words.now c.requires.0 c.args.out.now c.args.at c.requires.1) c.put_levels-diffuse.ensures) c.put_levels-luminosity.ensures) c.put_levels-specular.ensures) c.put_levels-reflection.ensures)
 
 pub put_levels-sides-requires : goal.put_levels-sides-requires
 unfolding number
-put_levels-sides-requires c =
-    let s0 = none c.args.words.now c.requires.0 c.args.out.now c.args.at c.requires.1 in
-    let s1 : After c.args.words.now c.requires.0 c.args.out.now c.args.at c.requires.1 1 c.put_levels-diffuse.new.out c.put_levels-diffuse.result = turn s0 c.put_levels-diffuse.ensures in
-    let s2 : After c.args.words.now c.requires.0 c.args.out.now c.args.at c.requires.1 2 c.put_levels-luminosity.new.out c.put_levels-luminosity.result = turn s1 c.put_levels-luminosity.ensures in
-    let s3 : After c.args.words.now c.requires.0 c.args.out.now c.args.at c.requires.1 3 c.put_levels-specular.new.out c.put_levels-specular.result = turn s2 c.put_levels-specular.ensures in
-    let s4 : After c.args.words.now c.requires.0 c.args.out.now c.args.at c.requires.1 4 c.put_levels-reflection.new.out c.put_levels-reflection.result = turn s3 c.put_levels-reflection.ensures in
-    let s5 : After c.args.words.now c.requires.0 c.args.out.now c.args.at c.requires.1 5 c.put_levels-transparency.new.out c.put_levels-transparency.result = turn s4 c.put_levels-transparency.ensures in
-    room s5
+put_levels-sides-requires c = room (turn (turn (turn (turn (turn (none c.args.words.now c.requires.0 c.args.out.now c.args.at c.requires.1) c.put_levels-diffuse.ensures) c.put_levels-luminosity.ensures) c.put_levels-specular.ensures) c.put_levels-reflection.ensures) c.put_levels-transparency.ensures)
 
 pub bounds-words-9 : goal.bounds-words-9
 bounds-words-9 c = omega (arith, c.requires.0)
 
 pub put_sides-requires : goal.put_sides-requires
 unfolding number
-put_sides-requires c =
-    let s0 = none c.args.words.now c.requires.0 c.args.out.now c.args.at c.requires.1 in
-    let s1 : After c.args.words.now c.requires.0 c.args.out.now c.args.at c.requires.1 1 c.put_levels-diffuse.new.out c.put_levels-diffuse.result = turn s0 c.put_levels-diffuse.ensures in
-    let s2 : After c.args.words.now c.requires.0 c.args.out.now c.args.at c.requires.1 2 c.put_levels-luminosity.new.out c.put_levels-luminosity.result = turn s1 c.put_levels-luminosity.ensures in
-    let s3 : After c.args.words.now c.requires.0 c.args.out.now c.args.at c.requires.1 3 c.put_levels-specular.new.out c.put_levels-specular.result = turn s2 c.put_levels-specular.ensures in
-    let s4 : After c.args.words.now c.requires.0 c.args.out.now c.args.at c.requires.1 4 c.put_levels-reflection.new.out c.put_levels-reflection.result = turn s3 c.put_levels-reflection.ensures in
-    let s5 : After c.args.words.now c.requires.0 c.args.out.now c.args.at c.requires.1 5 c.put_levels-transparency.new.out c.put_levels-transparency.result = turn s4 c.put_levels-transparency.ensures in
-    let s6 : After c.args.words.now c.requires.0 c.args.out.now c.args.at c.requires.1 6 c.put_levels-sides.new.out c.put_levels-sides.result = turn s5 c.put_levels-sides.ensures in
-    room s6
+put_sides-requires c = room (turn (turn (turn (turn (turn (turn (none c.args.words.now c.requires.0 c.args.out.now c.args.at c.requires.1) c.put_levels-diffuse.ensures) c.put_levels-luminosity.ensures) c.put_levels-specular.ensures) c.put_levels-reflection.ensures) c.put_levels-transparency.ensures) c.put_levels-sides.ensures)
 
 pub returns : goal.returns
 unfolding number
-returns c =
-    let s0 = none c.args.words.now c.requires.0 c.args.out.now c.args.at c.requires.1 in
-    let s1 : After c.args.words.now c.requires.0 c.args.out.now c.args.at c.requires.1 1 c.put_levels-diffuse.new.out c.put_levels-diffuse.result = turn s0 c.put_levels-diffuse.ensures in
-    let s2 : After c.args.words.now c.requires.0 c.args.out.now c.args.at c.requires.1 2 c.put_levels-luminosity.new.out c.put_levels-luminosity.result = turn s1 c.put_levels-luminosity.ensures in
-    let s3 : After c.args.words.now c.requires.0 c.args.out.now c.args.at c.requires.1 3 c.put_levels-specular.new.out c.put_levels-specular.result = turn s2 c.put_levels-specular.ensures in
-    let s4 : After c.args.words.now c.requires.0 c.args.out.now c.args.at c.requires.1 4 c.put_levels-reflection.new.out c.put_levels-reflection.result = turn s3 c.put_levels-reflection.ensures in
-    let s5 : After c.args.words.now c.requires.0 c.args.out.now c.args.at c.requires.1 5 c.put_levels-transparency.new.out c.put_levels-transparency.result = turn s4 c.put_levels-transparency.ensures in
-    let s6 : After c.args.words.now c.requires.0 c.args.out.now c.args.at c.requires.1 6 c.put_levels-sides.new.out c.put_levels-sides.result = turn s5 c.put_levels-sides.ensures in
-    end (turn s6 c.put_sides.ensures)
+returns c = end (turn (turn (turn (turn (turn (turn (turn (none c.args.words.now c.requires.0 c.args.out.now c.args.at c.requires.1) c.put_levels-diffuse.ensures) c.put_levels-luminosity.ensures) c.put_levels-specular.ensures) c.put_levels-reflection.ensures) c.put_levels-transparency.ensures) c.put_levels-sides.ensures) c.put_sides.ensures)
 
 pub shape_of-out : goal.shape_of-out
 shape_of-out c = (returns c).kept

@@ -37,61 +37,31 @@ put_head-kind-requires c = room (started c.args.points.now c.args.polygons.now c
 
 pub put_u4-tags-requires : goal.put_u4-tags-requires
 unfolding number
-put_u4-tags-requires c =
-    let s0 = started c.args.points.now c.args.polygons.now c.args.vertices.now c.args.names.now c.args.name_bytes.now c.args.records.now c.args.out.now c.args.n c.requires in
-    let s1 : After c.args.points.now c.args.polygons.now c.args.vertices.now c.args.names.now c.args.name_bytes.now c.args.records.now c.args.out.now c.args.n c.requires 1 c.put_head-kind.new.out c.put_head-kind.result = turn s0 c.put_head-kind.ensures in
-    rw length_bytes at (room s1)
+put_u4-tags-requires c = rw length_bytes at (room (turn (started c.args.points.now c.args.polygons.now c.args.vertices.now c.args.names.now c.args.name_bytes.now c.args.records.now c.args.out.now c.args.n c.requires) c.put_head-kind.ensures))
 
 pub put_names_chunk-coordinates-requires : goal.put_names_chunk-coordinates-requires
 unfolding number
-put_names_chunk-coordinates-requires c =
-    let s0 = started c.args.points.now c.args.polygons.now c.args.vertices.now c.args.names.now c.args.name_bytes.now c.args.records.now c.args.out.now c.args.n c.requires in
-    let s1 : After c.args.points.now c.args.polygons.now c.args.vertices.now c.args.names.now c.args.name_bytes.now c.args.records.now c.args.out.now c.args.n c.requires 1 c.put_head-kind.new.out c.put_head-kind.result = turn s0 c.put_head-kind.ensures in
-    let s2 : After c.args.points.now c.args.polygons.now c.args.vertices.now c.args.names.now c.args.name_bytes.now c.args.records.now c.args.out.now c.args.n c.requires 2 c.put_u4-tags.new.out c.put_u4-tags.result = turn s1 c.put_u4-tags.ensures in
-    ((facts_of c.args.points.now c.args.polygons.now c.args.vertices.now c.args.names.now c.args.name_bytes.now c.args.records.now c.args.out.now c.args.n c.requires).bytes_agree, room s2)
+put_names_chunk-coordinates-requires c = ((facts_of c.args.points.now c.args.polygons.now c.args.vertices.now c.args.names.now c.args.name_bytes.now c.args.records.now c.args.out.now c.args.n c.requires).bytes_agree, room (turn (turn (started c.args.points.now c.args.polygons.now c.args.vertices.now c.args.names.now c.args.name_bytes.now c.args.records.now c.args.out.now c.args.n c.requires) c.put_head-kind.ensures) c.put_u4-tags.ensures))
 
 pub put_points_chunk-runs-requires : goal.put_points_chunk-runs-requires
 unfolding number
-put_points_chunk-runs-requires c =
-    let s0 = started c.args.points.now c.args.polygons.now c.args.vertices.now c.args.names.now c.args.name_bytes.now c.args.records.now c.args.out.now c.args.n c.requires in
-    let s1 : After c.args.points.now c.args.polygons.now c.args.vertices.now c.args.names.now c.args.name_bytes.now c.args.records.now c.args.out.now c.args.n c.requires 1 c.put_head-kind.new.out c.put_head-kind.result = turn s0 c.put_head-kind.ensures in
-    let s2 : After c.args.points.now c.args.polygons.now c.args.vertices.now c.args.names.now c.args.name_bytes.now c.args.records.now c.args.out.now c.args.n c.requires 2 c.put_u4-tags.new.out c.put_u4-tags.result = turn s1 c.put_u4-tags.ensures in
-    let s3 : After c.args.points.now c.args.polygons.now c.args.vertices.now c.args.names.now c.args.name_bytes.now c.args.records.now c.args.out.now c.args.n c.requires 3 c.put_names_chunk-coordinates.new.out c.put_names_chunk-coordinates.result = turn s2 c.put_names_chunk-coordinates.ensures in
-    room s3
+put_points_chunk-runs-requires c = room (turn (turn (turn (started c.args.points.now c.args.polygons.now c.args.vertices.now c.args.names.now c.args.name_bytes.now c.args.records.now c.args.out.now c.args.n c.requires) c.put_head-kind.ensures) c.put_u4-tags.ensures) c.put_names_chunk-coordinates.ensures)
 
 pub put_runs-surfaces-requires : goal.put_runs-surfaces-requires
 unfolding number
 put_runs-surfaces-requires c =
     let k = facts_of c.args.points.now c.args.polygons.now c.args.vertices.now c.args.names.now c.args.name_bytes.now c.args.records.now c.args.out.now c.args.n c.requires in
-    let s0 = started c.args.points.now c.args.polygons.now c.args.vertices.now c.args.names.now c.args.name_bytes.now c.args.records.now c.args.out.now c.args.n c.requires in
-    let s1 : After c.args.points.now c.args.polygons.now c.args.vertices.now c.args.names.now c.args.name_bytes.now c.args.records.now c.args.out.now c.args.n c.requires 1 c.put_head-kind.new.out c.put_head-kind.result = turn s0 c.put_head-kind.ensures in
-    let s2 : After c.args.points.now c.args.polygons.now c.args.vertices.now c.args.names.now c.args.name_bytes.now c.args.records.now c.args.out.now c.args.n c.requires 2 c.put_u4-tags.new.out c.put_u4-tags.result = turn s1 c.put_u4-tags.ensures in
-    let s3 : After c.args.points.now c.args.polygons.now c.args.vertices.now c.args.names.now c.args.name_bytes.now c.args.records.now c.args.out.now c.args.n c.requires 3 c.put_names_chunk-coordinates.new.out c.put_names_chunk-coordinates.result = turn s2 c.put_names_chunk-coordinates.ensures in
-    let s4 : After c.args.points.now c.args.polygons.now c.args.vertices.now c.args.names.now c.args.name_bytes.now c.args.records.now c.args.out.now c.args.n c.requires 4 c.put_points_chunk-runs.new.out c.put_points_chunk-runs.result = turn s3 c.put_points_chunk-runs.ensures in
-    (record { lent = record { few = k.few_polygons; few_vertices = k.few_vertices; agree = k.vertices_agree }; small = small_vertices (lent c.args.points.now c.args.polygons.now c.args.vertices.now c.args.names.now c.args.name_bytes.now c.args.records.now) c.requires.mesh }, room s4)
+    (record { lent = record { few = k.few_polygons; few_vertices = k.few_vertices; agree = k.vertices_agree }; small = small_vertices (lent c.args.points.now c.args.polygons.now c.args.vertices.now c.args.names.now c.args.name_bytes.now c.args.records.now) c.requires.mesh }, room (turn (turn (turn (turn (started c.args.points.now c.args.polygons.now c.args.vertices.now c.args.names.now c.args.name_bytes.now c.args.records.now c.args.out.now c.args.n c.requires) c.put_head-kind.ensures) c.put_u4-tags.ensures) c.put_names_chunk-coordinates.ensures) c.put_points_chunk-runs.ensures))
 
 pub put_surfaces-requires : goal.put_surfaces-requires
 unfolding number
 put_surfaces-requires c =
     let k = facts_of c.args.points.now c.args.polygons.now c.args.vertices.now c.args.names.now c.args.name_bytes.now c.args.records.now c.args.out.now c.args.n c.requires in
-    let s0 = started c.args.points.now c.args.polygons.now c.args.vertices.now c.args.names.now c.args.name_bytes.now c.args.records.now c.args.out.now c.args.n c.requires in
-    let s1 : After c.args.points.now c.args.polygons.now c.args.vertices.now c.args.names.now c.args.name_bytes.now c.args.records.now c.args.out.now c.args.n c.requires 1 c.put_head-kind.new.out c.put_head-kind.result = turn s0 c.put_head-kind.ensures in
-    let s2 : After c.args.points.now c.args.polygons.now c.args.vertices.now c.args.names.now c.args.name_bytes.now c.args.records.now c.args.out.now c.args.n c.requires 2 c.put_u4-tags.new.out c.put_u4-tags.result = turn s1 c.put_u4-tags.ensures in
-    let s3 : After c.args.points.now c.args.polygons.now c.args.vertices.now c.args.names.now c.args.name_bytes.now c.args.records.now c.args.out.now c.args.n c.requires 3 c.put_names_chunk-coordinates.new.out c.put_names_chunk-coordinates.result = turn s2 c.put_names_chunk-coordinates.ensures in
-    let s4 : After c.args.points.now c.args.polygons.now c.args.vertices.now c.args.names.now c.args.name_bytes.now c.args.records.now c.args.out.now c.args.n c.requires 4 c.put_points_chunk-runs.new.out c.put_points_chunk-runs.result = turn s3 c.put_points_chunk-runs.ensures in
-    let s5 : After c.args.points.now c.args.polygons.now c.args.vertices.now c.args.names.now c.args.name_bytes.now c.args.records.now c.args.out.now c.args.n c.requires 5 c.put_runs-surfaces.new.out c.put_runs-surfaces.result = turn s4 c.put_runs-surfaces.ensures in
-    record { agree = k.bytes_agree; a_record_each = k.a_record_each; room = room s5 }
+    record { agree = k.bytes_agree; a_record_each = k.a_record_each; room = room (turn (turn (turn (turn (turn (started c.args.points.now c.args.polygons.now c.args.vertices.now c.args.names.now c.args.name_bytes.now c.args.records.now c.args.out.now c.args.n c.requires) c.put_head-kind.ensures) c.put_u4-tags.ensures) c.put_names_chunk-coordinates.ensures) c.put_points_chunk-runs.ensures) c.put_runs-surfaces.ensures) }
 
 pub returns : goal.returns
 unfolding number
-returns c =
-    let s0 = started c.args.points.now c.args.polygons.now c.args.vertices.now c.args.names.now c.args.name_bytes.now c.args.records.now c.args.out.now c.args.n c.requires in
-    let s1 : After c.args.points.now c.args.polygons.now c.args.vertices.now c.args.names.now c.args.name_bytes.now c.args.records.now c.args.out.now c.args.n c.requires 1 c.put_head-kind.new.out c.put_head-kind.result = turn s0 c.put_head-kind.ensures in
-    let s2 : After c.args.points.now c.args.polygons.now c.args.vertices.now c.args.names.now c.args.name_bytes.now c.args.records.now c.args.out.now c.args.n c.requires 2 c.put_u4-tags.new.out c.put_u4-tags.result = turn s1 c.put_u4-tags.ensures in
-    let s3 : After c.args.points.now c.args.polygons.now c.args.vertices.now c.args.names.now c.args.name_bytes.now c.args.records.now c.args.out.now c.args.n c.requires 3 c.put_names_chunk-coordinates.new.out c.put_names_chunk-coordinates.result = turn s2 c.put_names_chunk-coordinates.ensures in
-    let s4 : After c.args.points.now c.args.polygons.now c.args.vertices.now c.args.names.now c.args.name_bytes.now c.args.records.now c.args.out.now c.args.n c.requires 4 c.put_points_chunk-runs.new.out c.put_points_chunk-runs.result = turn s3 c.put_points_chunk-runs.ensures in
-    let s5 : After c.args.points.now c.args.polygons.now c.args.vertices.now c.args.names.now c.args.name_bytes.now c.args.records.now c.args.out.now c.args.n c.requires 5 c.put_runs-surfaces.new.out c.put_runs-surfaces.result = turn s4 c.put_runs-surfaces.ensures in
-    end (turn s5 c.put_surfaces.ensures)
+returns c = end (turn (turn (turn (turn (turn (turn (started c.args.points.now c.args.polygons.now c.args.vertices.now c.args.names.now c.args.name_bytes.now c.args.records.now c.args.out.now c.args.n c.requires) c.put_head-kind.ensures) c.put_u4-tags.ensures) c.put_names_chunk-coordinates.ensures) c.put_points_chunk-runs.ensures) c.put_runs-surfaces.ensures) c.put_surfaces.ensures)
 
 pub shape_of-out : goal.shape_of-out
 shape_of-out c = (returns c).kept
