@@ -15,7 +15,6 @@ import collections
 import glob
 import os
 import re
-import sys
 
 TOKEN = r"[^\s(){}.;,@\"«»`]+"
 DECLARED = re.compile(rf"^\s*(?:(?:abbrev|unfoldable|pub|data|record|module|infix\w*)\s+)*({TOKEN})((?:\s*[({{][^{{}}()]*[)}}])*)\s*:(?=\s|$)")
@@ -131,7 +130,6 @@ def main():
             for part in n.split("◌"):
                 if part and may_turn(part):
                     words[part] = snake(part)
-            # the kit's script respells such a word alone in some files
     table = {n: snake(n) for n in declared}
     table.update(words)
 
@@ -158,10 +156,9 @@ def main():
             if len(olds) > 1 and new not in APART:
                 clashes.append((p.replace(root + "/", ""), new, sorted(olds)))
         plan[p] = mine
-    # and within a module's public names
     for c in clashes:
         print("fall together:", *c)
-    if clashes and "--force" not in sys.argv:
+    if clashes:
         raise SystemExit(1)
 
     for p, text in texts.items():

@@ -56,7 +56,6 @@ class Names:
     def __init__(self, entry):
         self.needs = {norm(o): n for o, n in entry["needs"]}
         self.order = [n for o, n in entry["needs"]]
-        self.loops = {norm(o[0]): (o[1], o[2] if len(o) > 2 else None) for o in []}
         self.loop_list = entry["loops"]
         self.changed = entry["changed"]
         self.steps = {}
@@ -138,16 +137,14 @@ def turn(folder, names_folder):
         text = f.read()
     text = respelled(text)
     decls, tail = blocks(text)
-    first, rest = [], []
     # the file's own head: comments and imports
     head_lines = decls[0][0] if decls else []
-    title = [l for l in head_lines if l.startswith("--")]
     uses = [l for l in head_lines if l.startswith("use ")]
     # comments after the last import belong to the first declaration
     last_use = max([i for i, l in enumerate(head_lines) if l.startswith("use ")], default=-1)
     first_comments = [l for l in head_lines[last_use + 1 :] if l.startswith("--")]
     title = [l for l in head_lines[: last_use + 1] if l.startswith("--")]
-    invariants, answers, helpers, renames = [], [], [], {}
+    invariants, answers, renames = [], [], {}
     aliases = set()
     spec = None
     parsed = []
