@@ -168,7 +168,7 @@ fn all_new(lengths: &[u32], bytes: &[u8]) -> bool
     let mut multiplier = multiplier_of(bytes);
     let mut from = 0;
     let mut base = 0;
-    while from < lengths.len() {
+    'each_block: while from < lengths.len() {
         let r = pass(lengths, bytes, from, base, multiplier);
         if !r.new {
             return false;

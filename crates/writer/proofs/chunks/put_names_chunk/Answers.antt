@@ -1,6 +1,7 @@
 -- The body is the names as strings; its chunk is closed around it.
 use Prim.Native.Nat.{ℕ, ◌+◌, ◌≤◌}
 use mathlib.Core.Path.{◌≡◌, refl, sym, ◌∙◌}
+use native.Mathlib.Omega.{arith}
 use mathlib.Core.List.{List, map}
 use lib.ListN.{length}
 use Rattle.format.specs.Bytes.{number, tag_number, joined}
@@ -33,13 +34,13 @@ returns-then-names-eq0 c =
     rw (left_out "TAGS" "" string_bytes (pieces c.args.names.now c.args.name_bytes.now) (many c.args.names.now c.args.name_bytes.now ∙ c.if-names-eq0.true)) wrote_none
 
 pub put_strings-end-requires : goal.put_strings-end-requires
-put_strings-end-requires c = (c.requires.0, first_room (whole c.args.names.now c.args.name_bytes.now c.if-names-eq0.false c.args.out.now c.args.at c.requires.1))
+put_strings-end-requires c = (c.requires.0, first_room (whole c.args.names.now c.args.name_bytes.now (λ none. omega arith) c.args.out.now c.args.at c.requires.1))
 
 pub close_chunk-requires : goal.close_chunk-requires
 close_chunk-requires c =
-    close_room (whole c.args.names.now c.args.name_bytes.now c.if-names-eq0.false c.args.out.now c.args.at c.requires.1) c.put_strings-end.ensures
+    close_room (whole c.args.names.now c.args.name_bytes.now (λ none. omega arith) c.args.out.now c.args.at c.requires.1) c.put_strings-end.ensures
 
 pub returns : goal.returns
 unfolding number
 returns c =
-    closed (whole c.args.names.now c.args.name_bytes.now c.if-names-eq0.false c.args.out.now c.args.at c.requires.1) c.put_strings-end.ensures c.close_chunk.ensures
+    closed (whole c.args.names.now c.args.name_bytes.now (λ none. omega arith) c.args.out.now c.args.at c.requires.1) c.put_strings-end.ensures c.close_chunk.ensures
