@@ -89,7 +89,10 @@ impl Repository {
         assert_eq!(content, "built\n");
         assert_eq!(done.printed, format!("{}\n", library.display()), "{done:?}");
         let called = fs::read_to_string(self.root.join("called")).expect("the calls");
-        assert!(called.lines().all(|line| line == "lwo_c lib --cpu=x86-64"), "{called}");
+        assert!(
+            called.lines().all(|line| line == "lwo_c lib --cpu=x86-64"),
+            "{called}"
+        );
         called.lines().count()
     }
 }
