@@ -1,6 +1,5 @@
 pub mod ReaderSteps
 pub mod Entries
-pub mod CountLoop
 pub mod Inversion
 pub mod Places
 pub mod Strings

@@ -10,6 +10,7 @@ use lib.IntN.{ℤ}
 use lib.ListN.{length, get_or, take, drop, length-drop, drop_of_length-le, get_or-eq_default}
 use lib.Seq.{drop-cons, drop-drop}
 use borrow.Author.Tests.{le-leb, lt-leb, eq-eqb, ne_eqb, ltb-true, ltb-false}
+use Rattle.format.specs.declared.Fault.{Fault}
 use Rattle.format.specs.declared.Fault.TheVariants.{ItemCut, LongIndex, NotFinite}
 use Rattle.format.specs.Bytes.{number, signed, finite}
 use Rattle.format.specs.Items.{Verdict, Got, fault, ◌and_then◌, ◌>>=◌, item, uint, u2, u4, i2, float, first_long, long, low24, long_form, vx}
@@ -63,7 +64,7 @@ is_long s at b e = by (ltb at (length s)) refl
         rw (drop_of_length-le s {i = at} past, z)
 
 module _ {s : List ℕ} {at : ℕ} where
-  pub i2_cut : ReadsAt u2 (taking 2) s at (fault ItemCut at) → ReadsAt i2 (taking 2) s at (fault ItemCut at)
+  pub i2_cut : {why : Fault} {p : ℕ} → ReadsAt u2 (taking 2) s at (fault why p) → ReadsAt i2 (taking 2) s at (fault why p)
   unfolding i2 ◌and_then◌ ◌>>=◌
   i2_cut r = record { says = exact (rw (exactly r.says)); moves = tt }
 
@@ -71,7 +72,7 @@ module _ {s : List ℕ} {at : ℕ} where
   unfolding i2 ◌and_then◌ ◌>>=◌
   i2_whole r f = record { says = exact (rw (exactly r.says, f)); moves = r.moves }
 
-  pub float_cut : ReadsAt u4 (taking 4) s at (fault ItemCut at) → ReadsAt float (taking 4) s at (fault ItemCut at)
+  pub float_cut : {why : Fault} {p : ℕ} → ReadsAt u4 (taking 4) s at (fault why p) → ReadsAt float (taking 4) s at (fault why p)
   unfolding float
   float_cut r = record { says = cut NotFinite finite r.says; moves = tt }
 
@@ -87,7 +88,7 @@ module _ {s : List ℕ} {at : ℕ} where
   low24_is : {v nx : ℕ} → ReadsAt u4 (taking 4) s at (got s v nx) → Says low24 itself s at (got s (v % 16777216) nx)
   low24_is r = on _ r.says (given refl)
 
-  pub long_cut : ReadsAt u4 (taking 4) s at (fault ItemCut at) → ReadsAt long_form (taking 4) s at (fault ItemCut at)
+  pub long_cut : {why : Fault} {p : ℕ} → ReadsAt u4 (taking 4) s at (fault why p) → ReadsAt long_form (taking 4) s at (fault why p)
   long_cut r = record { says = cut LongIndex (leb first_long) (off _ r.says); moves = tt }
 
   pub long_is : {v nx : ℕ} → ReadsAt u4 (taking 4) s at (got s v nx) → first_long ≤ v % 16777216 → ReadsAt long_form (taking 4) s at (got s (v % 16777216) nx)

@@ -1,13 +1,14 @@
--- Two lists compared from the front: those that are left decide.
-use Prim.Native.Nat.{ℕ, suc, ◌+◌, ◌<◌, ◌≤◌}
+-- Two lists are the same, and a list is all of a kind, where its elements are, one by one.
+use Prim.Native.Nat.{ℕ}
+use Rattle.std.specs.Prelude.{nat_eq}
+use Rattle.std.specs.List.{list_all}
 use mathlib.Core.Path.{◌≡◌, refl, sym, ap, ◌∙◌}
 use mathlib.Core.List.{List, [], ◌∷◌}
-use mathlib.Core.Bool.{true, false, ◌&&◌, and-false, false≢true, and-eq-true_iff}
+use mathlib.Core.Bool.{Bool, true, false, false≢true, and-eq-true_iff}
 use lib.Dec.{eqb}
-use lib.ListN.{length, get_or, drop}
-use borrow.Author.Tests.{eqb-true, eq-eqb, ne_eqb}
-use Rattle.format.specs.Bytes.{same}
-use Rattle.format.proofs.Indexed.{at_index, past_end}
+use lib.Pointwise.{pointwise}
+use borrow.Author.Tests.{eqb-true, eq-eqb}
+use Rattle.format.specs.Bytes.{same, all}
 
 pub same_eq : (xs ys : List ℕ) → same xs ys ≡ true → xs ≡ ys
 unfolding same
@@ -24,33 +25,16 @@ same_refl (x ∷ xs) = rw (eq-eqb x x refl) (same_refl xs)
 pub not_same : {xs ys : List ℕ} → same xs ys ≡ false → ys ≡ xs → ⊥
 not_same {xs} {ys} f e = false≢true (sym f ∙ ap (same xs) e ∙ same_refl xs)
 
-pub different : (xs ys : List ℕ) → (length xs ≡ length ys → ⊥) → false ≡ same xs ys
+-- the library's comparison of lists of numbers is the specification's
+pub pointwise_same : (xs ys : List ℕ) → pointwise nat_eq xs ys ≡ same xs ys
 unfolding same
-different [] [] h = absurd (h refl)
-different [] (y ∷ ys) h = refl
-different (x ∷ xs) [] h = refl
-different (x ∷ xs) (y ∷ ys) h = rw (← different xs ys (λ e. h (ap suc e)), and-false)
+pointwise_same [] [] = refl
+pointwise_same [] (y ∷ ys) = refl
+pointwise_same (x ∷ xs) [] = refl
+pointwise_same (x ∷ xs) (y ∷ ys) = rw (pointwise_same xs ys) refl
 
--- lists of one length, of which the first i elements are the same
-pub record Sameness (xs ys : List ℕ) (i : ℕ) : Type 0 where
-  pub long : length xs ≡ length ys
-  pub so : same xs ys ≡ same (drop i xs) (drop i ys)
-
-pub begin : {xs ys : List ℕ} → length xs ≡ length ys → Sameness xs ys 0
-begin e = record { long = e; so = refl }
-
-module _ {xs ys : List ℕ} {i : ℕ} (w : Sameness xs ys i) where
-  pub end : length xs ≤ i → true ≡ same xs ys
-  unfolding same
-  end h = sym (rw (past_end xs i h, past_end ys i (rw (← w.long) h)) at w.so)
-
-  module _ (inside : i < length xs) where
-    step : same xs ys ≡ (eqb (get_or xs i 0) (get_or ys i 0) && same (drop (i + 1) xs) (drop (i + 1) ys))
-    unfolding same
-    step = rw (at_index xs i inside, at_index ys i (rw (← w.long) inside)) at w.so
-
-    pub differ : (get_or xs i 0 ≡ get_or ys i 0 → ⊥) → false ≡ same xs ys
-    differ e = sym (rw (ne_eqb _ _ e) at step)
-
-    pub turn : get_or xs i 0 ≡ get_or ys i 0 → Sameness xs ys (i + 1)
-    turn e = record { long = w.long; so = rw (eq-eqb _ _ e) at step }
+-- the library's test of a whole list is the specification's
+pub all_same : {A : Type 0} (p q : A → Bool) → ((a : A) → p a ≡ q a) → (xs : List A) → list_all p xs ≡ all q xs
+unfolding all
+all_same p q e [] = refl
+all_same p q e (x ∷ xs) = rw (e x, all_same p q e xs) refl

@@ -1,7 +1,8 @@
 -- How a contract cites the specification: what a reader says at a place of a slice, what a whole body is judged to be, what a table holds after words were
 -- put into it, what polygons are in the tables, and what the parts of a file are. The slice is a chunk's bytes from its tag on, so that an index of it is a
 -- place.
-use Rattle.std.specs.Prelude.{ℕ, ◌+◌, ◌*◌, ◌≤◌, ◌≡◌, Bool, List, [], ◌++◌, map, eqb, length, take, drop}
+use Rattle.std.specs.Prelude.{ℕ, ◌+◌, ◌*◌, ◌≤◌, ◌≡◌, Bool, List, [], ◌++◌, map, eqb, length, take, drop, Result, Ok, Err}
+use Rattle.format.specs.declared.Fault.{Fault}
 use Rattle.format.specs.declared.Kind.{Kind}
 use Rattle.format.specs.declared.Kind.TheVariants.{LWOB, LWO2}
 use Rattle.format.specs.Bytes.{tag_number, sum, joined}
@@ -10,6 +11,13 @@ use Rattle.format.specs.Chunks.{Chunks, chunks}
 use Rattle.format.specs.Mesh.{Polygon, polygon_words, Name}
 use Rattle.format.specs.Bodies.{Part, point_list, name_list, polygon_list, tagging, surface, layer, skipped_chunk}
 use Rattle.format.specs.Rules.{Before, start, walk, parts_of, names_of}
+
+-- ---- the file's first bytes
+
+-- What an answer on them says. A fault there is at the file's start, so that no place is told with it.
+abbrev pub form_as : Result Kind Fault → Verdict Kind
+form_as (Ok kind) = fine kind
+form_as (Err why) = fault why 0
 
 -- ---- readers
 

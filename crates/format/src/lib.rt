@@ -1,6 +1,7 @@
 // The rules of document 01 as definitions: see specs/. Code and rules share these types.
 #![tactic(auto)]
 
+pub mod conversions;
 pub mod tags;
 
 // The words of an entry in the tables of points, polygons and records.
@@ -22,7 +23,7 @@ pub const FIRST_LONG_INDEX: u32 = 65280;
 pub const MISSING_COLOUR: f32 = 1.0;
 
 // The two kinds of file.
-#[derive(Clone, Copy)]
+#[derive(Clone, Copy, Debug, PartialEq, Eq)]
 pub enum Kind {
     LWOB,
     LWO2,
@@ -30,7 +31,7 @@ pub enum Kind {
 
 // What sub-chunks stand in: a SURF; a BLOK, whose header has a place; or what holds attributes of a block, which is its header (IMAP, PROC, GRAD or SHDR) or a
 // TMAP.
-#[derive(Clone, Copy)]
+#[derive(Clone, Copy, Debug, PartialEq, Eq)]
 pub enum Container {
     Surf(Kind),
     Blok(usize),
@@ -38,7 +39,7 @@ pub enum Container {
 }
 
 // What can be wrong with a file. specs/Refusals.antt gives each its number.
-#[derive(Clone, Copy)]
+#[derive(Clone, Copy, Debug, PartialEq, Eq)]
 pub enum Fault {
     FileTooLong,
     NotForm,

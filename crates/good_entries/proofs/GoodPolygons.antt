@@ -1,5 +1,5 @@
 -- Polygons are good where all vertices are numbers of points and the words of each entry are good: the tests are the same, in another order.
-use Prim.Native.Nat.{ℕ, ◌-◌, ◌≤◌}
+use Prim.Native.Nat.{ℕ, ◌-◌}
 use mathlib.Core.Path.{◌≡◌, refl, sym, ap, ◌∙◌}
 use mathlib.Core.List.{List, [], ◌∷◌, ◌++◌, map}
 use mathlib.Core.Bool.{Bool, true, false, ◌&&◌, and_assoc, and-false}
@@ -14,7 +14,9 @@ use Rattle.format.proofs.Facts.{in_pairs}
 use Rattle.mesh.specs.declared.polygons.Polygon as view
 use Rattle.mesh.specs.Lent.{mesh_polygons}
 use Rattle.mesh.specs.Polygons.{polygon_at}
-use Rattle.mesh.proofs.PolygonWalk.{PolygonWalk, own_length}
+use Rattle.std.specs.declared.slice.ChunksExact.{ChunksExact}
+use Rattle.mesh.proofs.ColumnWalk.{NextEntry}
+use Rattle.mesh.proofs.PolygonEntries.{PolygonEntries, own_length}
 use Rattle.good_entries.specs.Entries.{good_entry}
 
 abbrev pub good_words : (name_count : ℕ) → Polygon → Bool
@@ -67,10 +69,10 @@ module _ (points names : ℕ) where
 
 -- ---- the answer for an entry is that for its polygon
 
-pub judged : (names : ℕ) {ws vs : List ℕ} {Left : List Polygon → Type 0} {at first : ℕ} {b : Bool} {p : view.Polygon}
-    → PolygonWalk ws vs Left at first → polygon_size ≤ length ws - at → p ≡ polygon_at ws at first
+pub judged : (names : ℕ) {ws vs : List ℕ} {Left : List Polygon → Type 0} {s : ChunksExact ℕ} {first : ℕ} {b : Bool} {p : view.Polygon}
+    → PolygonEntries ws vs Left s first → (t : ChunksExact ℕ) (x : List ℕ) → NextEntry s t x → p ≡ polygon_at x 0 first
     → b ≡ good_entry names p.kind (p.end - first) p.surface p.part_name
     → b ≡ good_words names (polygon_of p.kind p.surface p.part_name (take (p.end - first) (drop first vs)))
-judged names {ws} {vs} {Left} {at} {first} {b} {p} w fits is answer =
-    let count : p.end - first ≡ length (take (p.end - first) (drop first vs)) = omega (arith, own_length w fits is) in
+judged names {ws} {vs} {Left} {s} {first} {b} {p} w t x step is answer =
+    let count : p.end - first ≡ length (take (p.end - first) (drop first vs)) = omega (arith, own_length w t x step is) in
     answer ∙ ap (λ (n : ℕ). good_entry names p.kind n p.surface p.part_name) count

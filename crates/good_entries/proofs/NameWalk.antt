@@ -21,22 +21,22 @@ pub record Searching (x : Name) (ns bytes : List ℕ) (i at : ℕ) : Type 0 wher
   pub fits : at + sum (drop i ns) ≤ length bytes
   pub so : amongst x (pieces ns bytes) ≡ amongst x (pieces (drop i ns) (drop at bytes))
 
-pub search_begin : {x : Name} {ns bytes : List ℕ} → sum ns ≤ length bytes → Searching x ns bytes 0 0
-search_begin fits = record { fits = omega arith; so = refl }
-
 module _ {x : Name} {ns bytes : List ℕ} {i at : ℕ} (w : Searching x ns bytes i at) where
   pub not_there : length ns ≤ i → false ≡ amongst x (pieces ns bytes)
   unfolding pieces amongst
   not_there h = sym (rw (past_end ns i h) at w.so)
 
-  module _ (some : i < length ns) {n : ℕ} (long : n ≡ get_or ns i 0) where
+  module _ (some : i < length ns) where
+    abbrev n : ℕ
+    n = get_or ns i 0
+
     pub search_room : at + n ≤ length bytes
     search_room = omega (arith, w.fits, sum_index i ns some)
 
     module _ {b : Bool} (is : b ≡ same x (take (at + n - at) (drop at bytes))) where
       step : amongst x (pieces ns bytes) ≡ (if b then true else amongst x (pieces (drop (i + 1) ns) (drop (at + n) bytes)))
       unfolding amongst
-      step = w.so ∙ rw (is, part at n bytes, long, pieces_at i at ns bytes some)
+      step = w.so ∙ rw (is, part at n bytes, pieces_at i at ns bytes some)
 
       pub found : b ≡ true → true ≡ amongst x (pieces ns bytes)
       found t = sym (rw t at step)
@@ -64,27 +64,30 @@ module _ {ns bytes : List ℕ} {i at : ℕ} (w : NameWalk ns bytes i at) where
   pub earlier_fit : sum (take i ns) ≤ length bytes
   earlier_fit = omega (arith, w.agree, w.before)
 
-  module _ (some : i < length ns) {n : ℕ} (long : n ≡ get_or ns i 0) where
-    pub room : at + n ≤ length bytes
+  module _ (some : i < length ns) where
+    abbrev its_length : ℕ
+    its_length = get_or ns i 0
+
+    pub room : at + its_length ≤ length bytes
     room = omega (arith, w.agree, sum_index i ns some)
 
-    one_more : take (i + 1) ns ≡ take i ns ++ (n ∷ [])
-    one_more = rw (add-one, long) (take-suc ns i 0 some)
+    one_more : take (i + 1) ns ≡ take i ns ++ (its_length ∷ [])
+    one_more = rw add-one (take-suc ns i 0 some)
 
-    with_it : pieces (take (i + 1) ns) bytes ≡ pieces (take i ns) bytes ++ (take n (drop at bytes) ∷ [])
-    with_it = rw (one_more, pieces_snoc (take i ns) n bytes, ← w.before)
+    with_it : pieces (take (i + 1) ns) bytes ≡ pieces (take i ns) bytes ++ (take its_length (drop at bytes) ∷ [])
+    with_it = rw (one_more, pieces_snoc (take i ns) its_length bytes, ← w.before)
 
-    module _ {b : Bool} (is : b ≡ good_name (pieces (take i ns) bytes) (take (at + n - at) (drop at bytes))) where
-      judged : good_names [] (pieces ns bytes) ≡ (b && good_names (pieces (take (i + 1) ns) bytes) (pieces (drop (i + 1) ns) (drop (at + n) bytes)))
+    module _ {b : Bool} (is : b ≡ good_name (pieces (take i ns) bytes) (take (at + its_length - at) (drop at bytes))) where
+      judged : good_names [] (pieces ns bytes) ≡ (b && good_names (pieces (take (i + 1) ns) bytes) (pieces (drop (i + 1) ns) (drop (at + its_length) bytes)))
       unfolding good_names
-      judged = w.so ∙ rw (with_it, is, part at n bytes, long, pieces_at i at ns bytes some)
+      judged = w.so ∙ rw (with_it, is, part at its_length bytes, pieces_at i at ns bytes some)
 
       pub fails : b ≡ false → false ≡ good_names [] (pieces ns bytes)
       fails f = sym (rw f at judged)
 
-      pub turn : b ≡ true → NameWalk ns bytes (i + 1) (at + n)
+      pub turn : b ≡ true → NameWalk ns bytes (i + 1) (at + its_length)
       turn t = record {
         agree = omega (arith, w.agree, sum_index i ns some);
-        before = rw one_more (omega (arith, w.before, sum_snoc (take i ns) n));
+        before = rw one_more (omega (arith, w.before, sum_snoc (take i ns) its_length));
         so = rw t at judged;
       }

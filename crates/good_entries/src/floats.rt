@@ -8,12 +8,5 @@ use words::is_finite;
 pub fn all_finite(words: &[u32]) -> bool
     ensures { result ≡ all finite words.now }
 {
-    let mut i = 0;
-    while i < words.len() {
-        if !is_finite(words[i]) {
-            return false;
-        }
-        i += 1;
-    }
-    true
+    words.iter().all(|word| is_finite(*word))
 }

@@ -7,17 +7,14 @@ ghost use Rattle.good_entries.specs.Entries.{good_entry};
 
 use format::POLYGON_WORDS;
 use mesh::polygons::polygon_at;
-use words::wide;
 
 // Every vertex is the number of a point. A loop without an exit is several tests at a time to the processor.
 fn all_below(vertices: &[u32], points: usize) -> bool
     ensures { result ≡ all (λ v. ltb v points) vertices.now }
 {
     let mut below = true;
-    let mut i = 0;
-    while i < vertices.len() {
-        below = below & (wide(vertices[i]) < points);
-        i += 1;
+    for vertex in vertices {
+        below = below & ((*vertex as usize) < points);
     }
     below
 }
@@ -26,10 +23,11 @@ fn all_below(vertices: &[u32], points: usize) -> bool
 fn good_tag(number: u32, names: usize) -> bool
     ensures { result ≡ good_tag names number }
 {
-    (wide(number) <= names) & (number <= 65536)
+    (number as usize <= names) & (number <= 65536)
 }
 
 // The words of an entry: its kind, its vertex count, its surface number and its part name.
+// They are the caller's numbers, which are not known to be a kind or a tag before they are judged here.
 fn good_entry(kind: u32, count: usize, surface: u32, part_name: u32, names: usize) -> bool
     ensures { result ≡ good_entry names kind count surface part_name }
 {
@@ -40,6 +38,7 @@ fn good_entry(kind: u32, count: usize, surface: u32, part_name: u32, names: usiz
 }
 
 // All vertices are tested at once, before the entries, since a test of a few at a time costs more.
+// The two tables are the caller's, and the two numbers are judged apart: a vertex by how many points there are, a tag by how many names.
 pub fn good_polygons(polygons: &[u32], vertices: &[u32], points: usize, names: usize) -> bool
     requires { sum (vertex_counts polygons.now) ≡ length vertices.now }
     ensures { result ≡ all (good_polygon points names) (mesh_polygons polygons.now vertices.now) }
@@ -47,14 +46,12 @@ pub fn good_polygons(polygons: &[u32], vertices: &[u32], points: usize, names: u
     if !all_below(vertices, points) {
         return false;
     }
-    let mut at = 0;
     let mut first = 0;
-    while POLYGON_WORDS <= polygons.len() - at {
-        let p = polygon_at(polygons, at, first);
+    for entry in polygons.chunks_exact(POLYGON_WORDS) {
+        let p = polygon_at(entry, first);
         if !good_entry(p.kind, p.end - first, p.surface, p.part_name, names) {
             return false;
         }
-        at += POLYGON_WORDS;
         first = p.end;
     }
     true

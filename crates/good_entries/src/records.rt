@@ -7,7 +7,6 @@ ghost use Rattle.mesh.specs.Lent.{mesh_surfaces};
 
 use crate::floats::all_finite;
 use format::{MISSING_COLOUR, RECORD_WORDS};
-use words::same_words;
 
 // The bits of 1.0.
 const ONE: u32 = 0x3F80_0000;
@@ -18,7 +17,7 @@ fn is_missing(words: &[u32]) -> bool
 {
     let colour = f32::to_bits(MISSING_COLOUR);
     let missing = [0, colour, colour, colour, ONE, 0, 0, 0, 0, 1];
-    same_words(words, &missing)
+    words == missing.as_slice()
 }
 
 // A record that is not defined is not written, so that it has to be what reading gives a name with no SURF.
@@ -38,13 +37,10 @@ fn good_record(words: &[u32]) -> bool
 pub fn good_records(records: &[u32]) -> bool
     ensures { result ≡ all good_surface (mesh_surfaces records.now) }
 {
-    let mut at = 0;
-    while RECORD_WORDS <= records.len() - at {
-        let end = at + RECORD_WORDS;
-        if !good_record(&records[at..end]) {
+    for record in records.chunks_exact(RECORD_WORDS) {
+        if !good_record(record) {
             return false;
         }
-        at = end;
     }
     true
 }

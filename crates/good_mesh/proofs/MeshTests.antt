@@ -9,7 +9,7 @@ use lib.ListN.{length, length-map}
 use borrow.Author.Tests.{eqb-true}
 use Rattle.format.specs.Bytes.{every, all, sum, finite}
 use Rattle.format.specs.Limits.{entry_limit}
-use Rattle.format.specs.Mesh.{point_words, point_from, point_size, polygon_size, record_size, surface_from, Tables, lent}
+use Rattle.format.specs.Mesh.{point_words, point_from, point_size, polygon_size, record_size, surface_from, Tables}
 use Rattle.format.specs.Written.{entries, pieces, vertex_counts, mesh_from, whole_entries, good_polygon, good_names, good_surface, good_mesh, is_mesh}
 use Rattle.format.proofs.Facts.{every_at}
 use Rattle.mesh.specs.Lent.{column, mesh_polygons, mesh_surfaces}
@@ -63,55 +63,52 @@ ordered : (vertices bytes counts points polygons names surfaces : Bool)
     ≡ ((vertices && (bytes && (counts && true))) && (points && (polygons && (surfaces && names))))
 ordered vertices bytes counts points polygons names surfaces = simp (and_assoc, and-true) (rw (and_comm names surfaces))
 
-module _ (points polygons vertices names name_bytes records : List ℕ) where
-  abbrev t : Tables
-  t = lent points polygons vertices names name_bytes records
-
+module _ (t : Tables) where
   -- ---- the limits, where the tables are whole
 
   module _ (ok : whole_tables t ≡ true) where
-    whole_points : length points % point_size ≡ 0
+    whole_points : length t.points % point_size ≡ 0
     unfolding whole_tables
-    whole_points = (limits point_size points (every_at _ 0 ok)).0
+    whole_points = (limits point_size t.points (every_at _ 0 ok)).0
 
-    pub few_polygons : length polygons ≤ polygon_size * entry_limit
+    pub few_polygons : length t.polygons ≤ polygon_size * entry_limit
     unfolding whole_tables
-    few_polygons = omega (arith, limits polygon_size polygons (every_at _ 1 ok))
+    few_polygons = omega (arith, limits polygon_size t.polygons (every_at _ 1 ok))
 
-    pub few_names : length names ≤ entry_limit
+    pub few_names : length t.names ≤ entry_limit
     unfolding whole_tables
-    few_names = omega (arith, limits 1 names (every_at _ 3 ok))
+    few_names = omega (arith, limits 1 t.names (every_at _ 3 ok))
 
   -- ---- the decision
 
   abbrev agreeing : Bool
-  agreeing = counts_agree polygons vertices names name_bytes records
+  agreeing = counts_agree t.polygons t.vertices t.names t.name_bytes t.records
 
   abbrev finite_points : Bool
-  finite_points = all finite points
+  finite_points = all finite t.points
 
   abbrev good_polygons : Bool
-  good_polygons = all (good_polygon (length points / point_size) (length names)) (mesh_polygons polygons vertices)
+  good_polygons = all (good_polygon (length t.points / point_size) (length t.names)) (mesh_polygons t.polygons t.vertices)
 
   abbrev good_records : Bool
-  good_records = all good_surface (mesh_surfaces records)
+  good_records = all good_surface (mesh_surfaces t.records)
 
   abbrev names_pass : Bool
-  names_pass = good_names [] (pieces names name_bytes)
+  names_pass = good_names [] (pieces t.names t.name_bytes)
 
-  split : is_mesh t ≡ (whole_tables t && every (eqb (sum (vertex_counts polygons)) (length vertices) ∷ eqb (sum names) (length name_bytes) ∷ good_mesh (mesh_from t) ∷ []))
+  split : is_mesh t ≡ (whole_tables t && every (eqb (sum (vertex_counts t.polygons)) (length t.vertices) ∷ eqb (sum t.names) (length t.name_bytes) ∷ good_mesh (mesh_from t) ∷ []))
   unfolding is_mesh whole_tables
-  split = every_append (whole_entries point_size points ∷ whole_entries polygon_size polygons ∷ whole_entries 1 vertices ∷ whole_entries 1 names ∷ whole_entries 1 name_bytes ∷ whole_entries record_size records ∷ []) _
+  split = every_append (whole_entries point_size t.points ∷ whole_entries polygon_size t.polygons ∷ whole_entries 1 t.vertices ∷ whole_entries 1 t.names ∷ whole_entries 1 t.name_bytes ∷ whole_entries record_size t.records ∷ []) _
 
   decided : whole_tables t ≡ true → is_mesh t ≡ (agreeing && (finite_points && (good_polygons && (good_records && names_pass))))
   unfolding counts_agree good_mesh mesh_from mesh_polygons mesh_surfaces every
   decided ok =
       split
-      ∙ rw (ok, length-map (entries point_size points) point_from, length-map (entries record_size records) surface_from, length_entries point_size points, length_entries record_size records, length_pieces names name_bytes, finite_points_lem points (whole_points ok))
+      ∙ rw (ok, length-map (entries point_size t.points) point_from, length-map (entries record_size t.records) surface_from, length_entries point_size t.points, length_entries record_size t.records, length_pieces t.names t.name_bytes, finite_points_lem t.points (whole_points ok))
       (ordered
-      (eqb (sum (vertex_counts polygons)) (length vertices))
-      (eqb (sum names) (length name_bytes))
-      (eqb (length records / record_size) (length names))
+      (eqb (sum (vertex_counts t.polygons)) (length t.vertices))
+      (eqb (sum t.names) (length t.name_bytes))
+      (eqb (length t.records / record_size) (length t.names))
       finite_points
       good_polygons
       names_pass

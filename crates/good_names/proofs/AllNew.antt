@@ -11,7 +11,7 @@ use Rattle.format.specs.Written.{has_no_zero, good_names}
 use Rattle.format.proofs.AmongstNames.{amongst_append}
 use Rattle.format.proofs.Facts.{in_pairs}
 use Rattle.name_index.specs.Index.{new_to, all_new}
-use Rattle.good_names.specs.Names.{own_name, good_name}
+use Rattle.good_entries.specs.Entries.{own_name, good_name}
 
 -- ---- good names are good each by itself, and new
 

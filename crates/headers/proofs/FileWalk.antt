@@ -3,6 +3,7 @@ use mathlib.Core.Path.{◌≡◌, refl, sym, ap, ◌∙◌}
 use mathlib.Core.List.{List, [], ◌∷◌, ◌++◌, append_assoc, append-nil}
 use Prim.Native.Nat.{ℕ, ◌-◌, ◌≤◌, ◌<◌}
 use native.Mathlib.Omega.{arith}
+use Rattle.std.specs.Prelude.{Ok, Err}
 use lib.ListN.{length, take, drop, length-drop, drop_of_length-le}
 use Rattle.format.specs.declared.Kind.{Kind}
 use Rattle.format.specs.Items.{fine}
@@ -15,7 +16,7 @@ use Rattle.format.proofs.ReaderSteps.{exactly}
 use Rattle.format.proofs.Verdicts.{same_fine}
 use Rattle.format.proofs.ChunkWalk.{parts_finished, parts_broken, next}
 use Rattle.format.proofs.Tiling.{none, no_chunk}
-use Rattle.wire.specs.declared.cursor.Cursor.{Cursor}
+use Rattle.wire.specs.declared.Refusal.{Refusal}
 use Rattle.headers.specs.declared.Header.{Header}
 use Rattle.headers.specs.Promises.{HeaderAt}
 use Rattle.headers.proofs.ChunkInFile.{body, front, size}
@@ -38,7 +39,7 @@ module _ {kind : Kind} {file : List ℕ} {parts done : List Part} {at : ℕ} (w 
   pub end : length file ≤ at → done ≡ parts
   end h = sym (append-nil done) ∙ ap (λ z. done ++ z) (sym (none_left h)) ∙ w.all
 
-  pub never_bad : at < length file → HeaderAt 4 file at Header.Bad → ⊥
+  pub never_bad : {f : Refusal} → at < length file → HeaderAt 4 file at (Err f) → ⊥
   never_bad some h =
       let long : 0 < length (drop at file) = rw (length-drop at file) (omega arith) in
       impossible (cc (rw (no_chunk at (drop at file) long (exactly h.reads.says), parts_broken kind w.before at) at w.judged))
@@ -51,15 +52,15 @@ module _ {kind : Kind} {file : List ℕ} {parts done : List Part} {at : ℕ} (w 
     pub both : part ∷ later ≡ w.more
     pub onward : walk_parts kind (after w.before part) onto (chunks (drop onto file)) ≡ fine later
 
-  pub chunk_here : {tag last : ℕ} {c : Cursor} → HeaderAt 4 file at (Header.Got tag last c) → ChunkHere tag (take (last - at) (drop at file)) c.at
-  chunk_here {tag} {last} {c} h =
-      let this = next kind w.before at tag _ _ w.more (rw (front h) at w.judged) in
+  pub chunk_here : {head : Header} → HeaderAt 4 file at (Ok head) → ChunkHere head.tag (take (head.end - at) (drop at file)) head.next.at
+  chunk_here {head} h =
+      let this = next kind w.before at head.tag _ _ w.more (rw (front h) at w.judged) in
       record {
         part = this.part;
         later = this.later;
         here = rw (← body h) this.here;
         both = this.both;
-        onward = ap (λ k. walk_parts kind (after w.before this.part) k (chunks (drop c.at file))) (sym (size h)) ∙ this.onward;
+        onward = ap (λ k. walk_parts kind (after w.before this.part) k (chunks (drop head.next.at file))) (sym (size h)) ∙ this.onward;
       }
 
   module _ {tag : ℕ} {s : List ℕ} {onto : ℕ} (t : ChunkHere tag s onto) where

@@ -1,17 +1,21 @@
 // The headers of chunks and sub-chunks: tag, length within the parent, and pad, judged together.
 #![tactic(auto)]
 
-ghost use Rattle.std.specs.Prelude.{◌≡◌, ◌+◌, ◌≤◌, ◌<◌, eqb, length, take, drop};
-ghost use Rattle.format.specs.Bytes.{between, all};
-ghost use Rattle.headers.specs.Promises.{HeaderAt, HeadRead};
+ghost use Rattle.std.specs.Prelude.{◌≡◌, ◌≤◌, ◌<◌, ◌==◌};
+ghost use Rattle.std.specs.List.{list_all};
+ghost use Rattle.format.specs.Bytes.{between};
+ghost use Rattle.headers.specs.Promises.{HeaderAt};
 
-use wire::cursor::{Cursor, left, pair, word};
+use format::Fault;
+use wire::Refusal;
+use wire::cursor::{Cursor, left, number_at, word};
 
 // A well-formed chunk: its tag, the place where its body ends, and the cursor after its pad.
-#[derive(Clone, Copy)]
-pub enum Header {
-    Got { tag: u32, end: usize, next: Cursor },
-    Bad,
+#[derive(Clone, Copy, Debug, PartialEq, Eq)]
+pub struct Header {
+    pub tag: u32,
+    pub end: usize,
+    pub next: Cursor,
 }
 
 // A character that is printed.
@@ -22,69 +26,63 @@ fn tag_byte(b: u8) -> bool
 }
 
 // The four bytes of a tag.
-fn tag_ok(s: &[u8], at: usize) -> bool
-    requires { at + 4 ≤ length s.now }
-    ensures { result ≡ all (between 32 126) (take 4 (drop at s.now)) }
+fn tag_ok(tag: &[u8]) -> bool
+    ensures { result ≡ list_all (between 32 126) tag.now }
 {
-    tag_byte(s[at]) & tag_byte(s[at + 1]) & tag_byte(s[at + 2]) & tag_byte(s[at + 3])
+    tag.iter().all(|b| tag_byte(*b))
 }
 
-// The pad byte, where the length is odd.
-fn pad_ok(s: &[u8], end: usize, odd: usize) -> bool
-    requires { (odd < 2) × (end + odd ≤ length s.now) }
-    ensures { result ≡ all (eqb 0) (take odd (drop end s.now)) }
+// The pad, which is a zero byte where the length is odd, and else nothing.
+fn pad_ok(pad: &[u8]) -> bool
+    ensures { result ≡ list_all (λ b. b == 0) pad.now }
 {
-    if odd == 0 {
-        return true;
+    pad.iter().all(|b| *b == 0)
+}
+
+// A chunk whose length has WIDTH bytes. Whatever is wrong with its header is one fault.
+fn header_at<const WIDTH: usize>(s: &[u8], c: Cursor) -> Result<Header, Refusal>
+    requires { (0 < WIDTH) × (WIDTH ≤ 4) }
+    ensures { HeaderAt WIDTH s.now c.at result }
+{
+    let at = c.at;
+    let bad = Refusal {
+        why: Fault::BadHeader,
+        at,
+    };
+    let head = 4 + WIDTH;
+    if left(s, at) < head {
+        return Err(bad);
     }
-    s[end] == 0
-}
-
-// The rest of a header whose tag is good and whose length of `width` bytes is n.
-fn framed(s: &[u8], at: usize, width: usize, n: usize) -> Header
-    requires { HeadRead width s.now at n }
-    ensures { HeaderAt width s.now at result }
-{
-    let head = 4 + width;
+    if !tag_ok(&s[at..at + 4]) {
+        return Err(bad);
+    }
+    let n = number_at::<WIDTH>(s, at + 4) as usize;
     let odd = n % 2;
     if left(s, at) < head + n + odd {
-        return Header::Bad;
+        return Err(bad);
     }
     let end = at + head + n;
-    if !pad_ok(s, end, odd) {
-        return Header::Bad;
+    let next = end + odd;
+    if !pad_ok(&s[end..next]) {
+        return Err(bad);
     }
-    Header::Got {
+    Ok(Header {
         tag: word(s, at),
         end,
-        next: Cursor { at: end + odd },
-    }
+        next: Cursor { at: next },
+    })
 }
 
 // A chunk of a file.
-pub fn chunk_at(s: &[u8], c: Cursor) -> Header
+pub fn chunk_at(s: &[u8], c: Cursor) -> Result<Header, Refusal>
     ensures { HeaderAt 4 s.now c.at result }
 {
-    let at = c.at;
-    if left(s, at) < 8 {
-        return Header::Bad;
-    }
-    if !tag_ok(s, at) {
-        return Header::Bad;
-    }
-    framed(s, at, 4, word(s, at + 4) as usize)
+    header_at::<4>(s, c)
 }
 
 // A sub-chunk of a chunk.
-pub fn sub_at(s: &[u8], c: Cursor) -> Header
+pub fn sub_at(s: &[u8], c: Cursor) -> Result<Header, Refusal>
     ensures { HeaderAt 2 s.now c.at result }
 {
-    let at = c.at;
-    if left(s, at) < 6 {
-        return Header::Bad;
-    }
-    if !tag_ok(s, at) {
-        return Header::Bad;
-    }
-    framed(s, at, 2, pair(s, at + 4) as usize)
+    header_at::<2>(s, c)
 }

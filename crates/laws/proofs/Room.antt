@@ -67,7 +67,7 @@ pub record MeshWithoutRoom (o : Outcome) (t : Tables) : Type 0 where
   pub short : fits (needs mesh) t ≡ false
 
 -- a fault of a file has one of the reader's numbers
-number_range : (why : Fault) → is_of_reader (number_of why) ≡ true
+pub number_range : (why : Fault) → is_of_reader (number_of why) ≡ true
 unfolding number_of
 number_range FileTooLong = refl
 number_range NotForm = refl

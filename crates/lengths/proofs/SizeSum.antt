@@ -1,14 +1,14 @@
 -- A loop that adds sizes up: what was added so far, and the size of what is left.
-use Prim.Native.Nat.{ℕ, ◌+◌, ◌-◌, ◌<◌, ◌≤◌}
-use mathlib.Core.Path.{◌≡◌}
-use mathlib.Core.List.{List, map}
+use Prim.Native.Nat.{ℕ, ◌+◌, ◌<◌, ◌≤◌}
+use mathlib.Core.Path.{◌≡◌, refl}
+use mathlib.Core.List.{List, [], ◌∷◌, ◌++◌, map}
 use native.Mathlib.Omega.{arith}
 use lib.ListN.{length, get_or, drop, length-append}
 use Rattle.format.specs.Bytes.{sum, joined}
 use Rattle.format.specs.Mesh.{word, record_size}
-use Rattle.mesh.specs.Lent.{entry_at, column}
+use Rattle.mesh.specs.Lent.{column}
 use Rattle.format.proofs.Indexed.{at_index, past_end}
-use Rattle.mesh.proofs.Entries.{column_at}
+use Rattle.mesh.proofs.ColumnWalk.{entries_next}
 use Rattle.format.specs.Promises.{total}
 use Rattle.lengths.specs.Sizes.{Counted, surface_size, surfaces_size}
 
@@ -16,7 +16,7 @@ pub record SizeSum (goal so_far rest most : ℕ) : Type 0 where
   pub so : goal ≡ so_far + rest
   pub few : so_far ≤ most
 
-pub begin : {goal : ℕ} → SizeSum goal 0 goal 0
+pub begin : {goal most : ℕ} → SizeSum goal 0 goal most
 begin = record { so = omega arith; few = omega arith }
 
 module _ {goal so_far rest most : ℕ} (w : SizeSum goal so_far rest most) where
@@ -45,13 +45,12 @@ module _ (xs : List ℕ) (i : ℕ) where
   unfolding sum
   sum_none f outside = rw (past_end xs i outside)
 
--- the names and their records
-module _ (i at : ℕ) (ns ws : List ℕ) where
-  pub surfaces_more : i < length ns → record_size ≤ length ws - at
-      → surfaces_size (drop i ns) (column record_size 0 (drop at ws)) ≡ surface_size (word 0 (entry_at record_size at ws)) (get_or ns i 0) + surfaces_size (drop (i + 1) ns) (column record_size 0 (drop (at + record_size) ws))
-  unfolding surfaces_size
-  surfaces_more inside fits = rw (at_index ns i inside, column_at record_size 0 at ws (omega arith) fits)
+-- a name and its record
+pub surfaces_more : {ns ws : List ℕ} (n : ℕ) (later : List ℕ) (x more : List ℕ) → ns ≡ n ∷ later → ws ≡ x ++ more → length x ≡ record_size
+    → surfaces_size ns (column record_size 0 ws) ≡ surface_size (word 0 x) n + surfaces_size later (column record_size 0 more)
+unfolding surfaces_size
+surfaces_more n later x more first next long = rw (first, next, entries_next record_size x more (omega arith) long)
 
-  pub surfaces_none : length ns ≤ i → surfaces_size (drop i ns) (column record_size 0 (drop at ws)) ≡ 0
-  unfolding surfaces_size
-  surfaces_none outside = rw (past_end ns i outside)
+pub surfaces_none : (ws : List ℕ) → surfaces_size [] (column record_size 0 ws) ≡ 0
+unfolding surfaces_size
+surfaces_none ws = refl

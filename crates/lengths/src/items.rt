@@ -9,7 +9,6 @@ ghost use Rattle.format.specs.Promises.{total};
 ghost use Rattle.lengths.specs.Sizes.{Counted, unless_none};
 
 use format::FIRST_LONG_INDEX;
-use words::wide;
 
 // The shortest VX.
 pub fn vx_length(n: usize) -> usize
@@ -47,10 +46,8 @@ pub fn vertices_length(vertices: &[u32]) -> usize
     ensures { Counted result (total vx_bytes vertices.now) (4 * length vertices.now) }
 {
     let mut bytes = 0;
-    let mut i = 0;
-    while i < vertices.len() {
-        bytes += vx_length(wide(vertices[i]));
-        i += 1;
+    for vertex in vertices {
+        bytes += vx_length(*vertex as usize);
     }
     bytes
 }
@@ -61,10 +58,8 @@ pub fn strings_length(lengths: &[u32]) -> usize
     ensures { Counted result (sum (map string_size lengths.now)) (2 ^ 57) }
 {
     let mut bytes = 0;
-    let mut i = 0;
-    while i < lengths.len() {
-        bytes += string_length(wide(lengths[i]));
-        i += 1;
+    for length in lengths {
+        bytes += string_length(*length as usize);
     }
     bytes
 }

@@ -10,7 +10,6 @@ ghost use Rattle.lengths.specs.Sizes.{Counted};
 
 use crate::items::{unless_empty, vertices_length, vx_length};
 use format::{PART_WORD, POLYGON_WORDS, SURFACE_WORD};
-use mesh::columns::word_at;
 use mesh::polygons::{run_end, vertex_count};
 
 // A polygon whose surface number, or part name, is 0 has no pair.
@@ -26,12 +25,8 @@ pub fn pairs_length(run: &[u32], index: usize) -> usize
     ensures { Counted result (length (pairs_from 0 (column polygon_size index run.now))) (2 * length run.now) }
 {
     let mut bytes = 0;
-    let mut i = 0;
-    let mut at = 0;
-    while POLYGON_WORDS <= run.len() - at {
-        bytes += pair_length(i, word_at(run, POLYGON_WORDS, at, index));
-        i += 1;
-        at += POLYGON_WORDS;
+    for (i, entry) in run.chunks_exact(POLYGON_WORDS).enumerate() {
+        bytes += pair_length(i, entry[index]);
     }
     bytes
 }
@@ -50,6 +45,7 @@ pub fn run_length(run: &[u32], vertices: &[u32]) -> usize
 }
 
 // All runs, each by its part of the two tables.
+// The polygons and their joined vertices are two of the caller's tables. A pair of them would be taken apart in each contract, so they stay side by side.
 pub fn runs_length(polygons: &[u32], vertices: &[u32]) -> usize
     requires { PolygonsLent polygons.now vertices.now }
     ensures { Counted result (total encoded (joined (map run_chunks (runs (mesh_polygons polygons.now vertices.now))))) (16 * length polygons.now + 4 * length vertices.now) }
@@ -57,6 +53,7 @@ pub fn runs_length(polygons: &[u32], vertices: &[u32]) -> usize
     let mut bytes = 0;
     let mut at = 0;
     let mut first = 0;
+    // A run's length is its own, so the places in both tables are moved on by hand.
     while POLYGON_WORDS <= polygons.len() - at {
         let end = run_end(polygons, at);
         let last = first + vertex_count(&polygons[at..end]);

@@ -7,8 +7,6 @@ ghost use Rattle.lengths.specs.Sizes.{Counted, surface_size, surfaces_size};
 
 use crate::items::{chunk_length, string_length};
 use format::RECORD_WORDS;
-use mesh::columns::word_at;
-use words::wide;
 
 // Empty source, COLR, five levels and SIDE take 90 bytes beside the name.
 fn surface_length(defined: u32, name: usize) -> usize
@@ -28,12 +26,8 @@ pub fn surfaces_length(lengths: &[u32], records: &[u32]) -> usize
     ensures { Counted result (surfaces_size lengths.now (column record_size 0 records.now)) (2 ^ 57) }
 {
     let mut bytes = 0;
-    let mut i = 0;
-    let mut at = 0;
-    while i < lengths.len() {
-        bytes += surface_length(word_at(records, RECORD_WORDS, at, 0), wide(lengths[i]));
-        i += 1;
-        at += RECORD_WORDS;
+    for (length, record) in lengths.iter().zip(records.chunks_exact(RECORD_WORDS)) {
+        bytes += surface_length(record[0], *length as usize);
     }
     bytes
 }

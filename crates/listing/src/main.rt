@@ -1,7 +1,7 @@
 // Reads an object file from standard input and prints its listing. Nothing but the three standard streams and the program's own buffers is touched.
 #![tactic(auto)]
 
-use listing_input::{Input, read_input};
+use listing_input::read_input;
 use listing_output::{NAME_BYTES, NAMES, OUTPUT, POINTS, POLYGONS, RECORDS, VERTICES, put_output};
 use std::io::Write;
 
@@ -11,7 +11,7 @@ const INPUT: usize = 65537;
 // What could not be read or written is told on standard error alone: the program's exit status is 0 always.
 fn main(rt: HostRuntime) {
     let mut buffer = [0u8; INPUT];
-    let Input::Bytes(length) = read_input(&mut rt.stdin(), &mut buffer) else {
+    let Ok(length) = read_input(&mut rt.stdin(), &mut buffer) else {
         let _ = eprintln!(rt; "listing: standard input cannot be read");
         return;
     };

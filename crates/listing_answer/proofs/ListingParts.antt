@@ -1,20 +1,31 @@
 -- The parts of a listing: a refusal's line, or the counts and the lines of the polygons.
 use Prim.Native.Nat.{ℕ, ◌+◌, ◌*◌, ◌≤◌}
-use mathlib.Core.Path.{◌≡◌}
+use mathlib.Core.Path.{◌≡◌, sym, ap, ◌∙◌}
+use mathlib.Core.Bool.{false≢true}
 use mathlib.Core.List.{List}
 use native.Mathlib.Omega.{arith}
 use lib.ListN.{length}
 use lib.Seq.{length-take-le}
 use borrow.Author.Tests.{eq-eqb, ne_eqb}
-use Rattle.format.specs.Mesh.{polygon_size}
-use Rattle.read_answer.specs.declared.ReadAnswer.{ReadAnswer}
+use Rattle.std.specs.Prelude.{Err}
+use Rattle.format.specs.Refusals.{is_of_reader}
+use Rattle.format.specs.Answer.{Answer}
+use Rattle.laws.proofs.Room.{number_range}
+use Rattle.read_answer.specs.declared.ReadError.{ReadError}
+use Rattle.read_answer.specs.declared.ReadError.TheVariants.{Refused, NoRoom}
 use Rattle.read_answer.specs.Reads.{answer_as}
+use Rattle.format.specs.Mesh.{polygon_size}
 use Rattle.listing_text.specs.Prints.{Prints, LinesLent, PrintsLines, lines_size}
 use Rattle.listing_text.proofs.PrintedSoFar.{at_most, then_prints}
 use Rattle.listing_answer.specs.Listing.{count_lines, refusal_line, listing}
 use Rattle.listing_answer.specs.Lent.{ListingLent, CountsHeld, PrintsListing, counts_size, output_size, polygons_front, vertices_front, counted_polygons}
 
-module _ {out ps vs : List ℕ} {a : ReadAnswer} (w : ListingLent out a ps vs) where
+-- no refusal has the number 0
+pub numbered : (e : ReadError) → (answer_as (Err e)).number ≡ 0 → ⊥
+numbered (Refused f) z = false≢true (sym (ap is_of_reader z) ∙ number_range f.why)
+numbered (NoRoom t) z = absurd (omega (arith, z))
+
+module _ {out ps vs : List ℕ} {a : Answer} (w : ListingLent out a ps vs) where
   pub refused : {out' : List ℕ} {next n : ℕ} → (a.number ≡ 0 → ⊥) → n ≡ a.number → Prints out 0 (refusal_line n a.place) out' next counts_size
       → PrintsListing out a ps vs out' next
   unfolding listing
@@ -24,13 +35,13 @@ module _ {out ps vs : List ℕ} {a : ReadAnswer} (w : ListingLent out a ps vs) w
     enough_there : CountsHeld a ps vs
     enough_there = w.counts_held ok
 
-    pub words_there : length (polygons_front a ps) ≡ a.polygons * polygon_size
-    words_there = length-take-le (a.polygons * polygon_size) ps enough_there.enough
+    pub words_there : length (polygons_front a ps) ≡ a.needs.polygons * polygon_size
+    words_there = length-take-le (a.needs.polygons * polygon_size) ps enough_there.enough
 
-    pub vertices_there : length (vertices_front a vs) ≡ a.vertices
-    vertices_there = length-take-le a.vertices vs enough_there.enough_vertices
+    pub vertices_there : length (vertices_front a vs) ≡ a.needs.vertices
+    vertices_there = length-take-le a.needs.vertices vs enough_there.enough_vertices
 
-    module _ {out' : List ℕ} {next : ℕ} (p : Prints out 0 (count_lines (answer_as a)) out' next counts_size) where
+    module _ {out' : List ℕ} {next : ℕ} (p : Prints out 0 (count_lines a) out' next counts_size) where
       pub lines_lent : LinesLent out' next (polygons_front a ps) (vertices_front a vs)
       lines_lent = record {
         agree = rw vertices_there enough_there.agree;

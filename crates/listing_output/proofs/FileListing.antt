@@ -5,10 +5,8 @@ use mathlib.Core.List.{List}
 use lib.ListN.{length}
 use Rattle.format.specs.Mesh.{Tables, point_size, polygon_size, record_size, Needs, needs}
 use Rattle.format.specs.Rules.{Outcome, refused, gives, rules}
-use Rattle.format.specs.Answer.{answer, fits, Reads}
+use Rattle.format.specs.Answer.{Answer, answer, fits, Reads}
 use Rattle.output.specs.Outputs.{Wrote}
-use Rattle.read_answer.specs.declared.ReadAnswer.{ReadAnswer}
-use Rattle.read_answer.specs.Reads.{answer_as}
 use Rattle.listing_answer.specs.Listing.{listing, polygons_given}
 use Rattle.listing_answer.specs.Lent.{counted_polygons}
 use Rattle.listing_answer.proofs.AfterReading.{after_reading}
@@ -32,11 +30,11 @@ unfolding answer
 same_answer (refused number place) t h = refl
 same_answer (gives m k d) t h = rw (same_room (needs m) t h)
 
-module _ {file : List ℕ} {t t' : Tables} {a : ReadAnswer} (r : Reads file t (answer_as a) t') (lent : ProgramLengths t) where
-  same_listing : listing (answer_as a) (counted_polygons a t'.polygons t'.vertices) ≡ file_listing file
+module _ {file : List ℕ} {t t' : Tables} {a : Answer} (r : Reads file t a t') (lent : ProgramLengths t) where
+  same_listing : listing a (counted_polygons a t'.polygons t'.vertices) ≡ file_listing file
   unfolding file_listing
   same_listing = (after_reading r).same ∙ ap (λ x. listing x (polygons_given (rules file))) (same_answer (rules file) t lent)
 
-  pub wrote_file : {out out' : List ℕ} {next : ℕ} → Wrote out 0 (listing (answer_as a) (counted_polygons a t'.polygons t'.vertices)) out' next
+  pub wrote_file : {out out' : List ℕ} {next : ℕ} → Wrote out 0 (listing a (counted_polygons a t'.polygons t'.vertices)) out' next
       → Wrote out 0 (file_listing file) out' next
   wrote_file w = rw same_listing at w

@@ -27,6 +27,7 @@ pub const RECORDS: usize = 256 * RECORD_WORDS;
 pub const OUTPUT: usize = 831702;
 
 // What the program prints for its input, of which as much was read as there was room for. The tables are lent for the reading.
+// The tables are lent one by one: of a struct of `&mut` slices the contract would have to say once more which slice is which after the call.
 pub fn put_output(
     out: &mut [u8; OUTPUT],
     input: &[u8],

@@ -16,16 +16,10 @@ pub record PrintedVertices (vs t : List ℕ) (at : ℕ) (t' : List ℕ) (next i 
   pub inside : i ≤ length vs
   pub prints : PrintedSoFar (vertex_texts vs) (vertex_texts (drop i vs)) t at t' next (21 * i)
 
-pub begin : {vs t : List ℕ} {at : ℕ} → at + vertices_size vs ≤ length t → PrintedVertices vs t at t at 0
-begin room = record { room = room; inside = omega arith; prints = text.begin }
-
 module _ {vs t t' : List ℕ} {at next i : ℕ} (w : PrintedVertices vs t at t' next i) where
   pub end : length vs ≤ i → Prints t at (vertex_texts vs) t' next (vertices_size vs)
   unfolding vertex_texts
   end outside = text.at_most (text.end w.prints (joined_none (labelled (spelt " ")) vs i outside)) (omega (arith, w.inside))
-
-  pub one_fits : i < length vs → next + 21 ≤ length t'
-  one_fits inside = omega (arith, w.room, w.prints.prints.few, w.prints.prints.wrote.kept)
 
   pub turn : {n : ℕ} {t'' : List ℕ} {last : ℕ} → i < length vs → n ≡ get_or vs i 0 → Prints t' next (labelled (spelt " ") n) t'' last 21
       → PrintedVertices vs t at t'' last (i + 1)

@@ -12,6 +12,7 @@ use load_polygon_chunks::polygons::fill_polygons;
 use load_surfaces::records::fill_records;
 
 // The records come last: a SURF is stored for its name, which is looked up in the tables of names.
+// The tables are lent one by one: of a struct of `&mut` slices the contract would have to say once more which slice is which after the call.
 pub fn fill_tables(
     file: &[u8],
     kind: Kind,

@@ -1,4 +1,5 @@
 -- The walk that puts the points: those of the parts that were passed stand at the front of the table, and the next chunk's are put behind them.
+use Rattle.std.specs.Prelude.{Ok, Err}
 use mathlib.Core.Path.{◌≡◌, refl, sym, ap, subst, ◌∙◌}
 use mathlib.Core.List.{List, [], ◌∷◌, ◌++◌, append-nil}
 use Prim.Native.Nat.{ℕ, ◌+◌, ◌-◌, ◌≤◌, ◌<◌}
@@ -10,7 +11,7 @@ use Rattle.format.specs.Bodies.{Part}
 use Rattle.format.specs.Promises.{Put, FileRoom, FilePut}
 use Rattle.format.proofs.Verdicts.{same_fine}
 use Rattle.format.proofs.Puts.{joined_map_append, put_none, put_length, put_append}
-use Rattle.wire.specs.declared.cursor.Cursor.{Cursor}
+use Rattle.wire.specs.declared.Refusal.{Refusal}
 use Rattle.headers.specs.declared.Header.{Header}
 use Rattle.headers.specs.Promises.{HeaderAt}
 use Rattle.headers.proofs.FileWalk as walk
@@ -40,14 +41,14 @@ module _ {kind : Kind} {file table₀ : List ℕ} {at m : ℕ} {table : List ℕ
   end h = record { put = λ parts e. let same : parts ≡ f.room.parts = same_fine (sym e ∙ f.room.sound) in rw (same, ← walk.end f.walked h) f.put }
 
   module _ (some : at < length file) where
-    pub never_bad : HeaderAt 4 file at Header.Bad → ⊥
+    pub never_bad : {e : Refusal} → HeaderAt 4 file at (Err e) → ⊥
     never_bad h = walk.never_bad f.walked some h
 
-    module _ {tag : ℕ} {last : ℕ} {c : Cursor} (h : HeaderAt 4 file at (Header.Got tag last c)) where
+    module _ {head : Header} (h : HeaderAt 4 file at (Ok head)) where
       abbrev lent : List ℕ
-      lent = take (last - at) (drop at file)
+      lent = take (head.end - at) (drop at file)
 
-      this : ChunkHere f.walked tag lent c.at
+      this : ChunkHere f.walked head.tag lent head.next.at
       this = walk.chunk_here f.walked h
 
       fits : m + length (part_points this.part) ≤ length table₀
@@ -57,10 +58,10 @@ module _ {kind : Kind} {file table₀ : List ℕ} {at m : ℕ} {table : List ℕ
           let j = simp length-append at (rw (joined_map_append part_points f.done (this.part ∷ this.later)) at l) in
           omega (arith, j, f.here, f.room.fits)
 
-      pub chunk_room : ChunkRoom kind tag lent table m
+      pub chunk_room : ChunkRoom kind head.tag lent table m
       chunk_room = record { before = f.walked.before; part = this.part; sound = this.here; fits = omega (arith, fits, f.kept) }
 
-      pub turn : {table' : List ℕ} {m' : ℕ} → ChunkPut kind tag lent table m table' m' → PointsPutTo kind file table₀ c.at m' table'
+      pub turn : {table' : List ℕ} {m' : ℕ} → ChunkPut kind head.tag lent table m table' m' → PointsPutTo kind file table₀ head.next.at m' table'
       turn {table'} {m'} w =
           let p = w.put f.walked.before this.part this.here in
           let n = w.next_is f.walked.before this.part this.here in

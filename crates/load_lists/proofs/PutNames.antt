@@ -1,4 +1,5 @@
 -- The names before the place are in the tables, and the one at it was judged fine with all that follow, so that it is not open and has room.
+use Rattle.std.specs.Prelude.{Ok, Err}
 use mathlib.Core.Path.{◌≡◌, refl, sym, ap, ◌∙◌}
 use mathlib.Core.Bool.{Bool, true, false, ◌&&◌}
 use mathlib.Core.List.{List, [], ◌∷◌, ◌++◌, map, map-append, append_assoc, append-nil}
@@ -16,8 +17,8 @@ use Rattle.format.specs.Bodies.{name_list, new_name, name, names_after, names_bo
 use Rattle.format.specs.Promises.{Put}
 use Rattle.load_lists.specs.Promises.{NamesRoom, NamesPut}
 use Rattle.format.proofs.ReaderSteps.{exactly}
+use Rattle.wire.specs.declared.Refusal.{Refusal}
 use Rattle.wire.specs.declared.cursor.Cursor.{Cursor}
-use Rattle.wire.specs.declared.cursor.Text.{Text}
 use Rattle.wire.specs.Promises.{TextAt}
 use Rattle.wire.proofs.Items.{inside}
 use Rattle.format.proofs.Verdicts.{same_fine, then_fine, chosen}
@@ -123,11 +124,11 @@ module _ {s lengths₀ : List ℕ} {k : ℕ} {bytes₀ : List ℕ} {b at i m : �
         ≡ fine (record { value = f.more; next = f.next; left = f.left })
     once = sym (burnt f.fuel f.earlier s at some f.enough) ∙ f.reads
 
-    pub never_open : TextAt s at Text.Open → ⊥
+    pub never_open : {e : Refusal} → TextAt s at (Err e) → ⊥
     unfolding name ◌>>=◌ ◌or◌unless◌ ◌and_then◌
     never_open w = let z : ◌≡◌ {A = ℕ} 0 1 = cc (rw (exactly w.reads.says) at once) in omega arith
 
-    module _ {n : ℕ} {c : Cursor} (w : TextAt s at (Text.Got n c)) where
+    module _ {n : ℕ} {c : Cursor} (w : TextAt s at (Ok (n, c))) where
       pub name_next : NameNext s at n c.at f.fuel f.earlier f.more f.next f.left
       name_next =
           let x = take n (drop at s) in

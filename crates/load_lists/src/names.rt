@@ -1,26 +1,15 @@
 // The names of a SRFS or TAGS body, and of a file, into the tables of lengths and of bytes.
-ghost use Rattle.std.specs.Prelude.{◌≡◌, ◌+◌, ◌≤◌, length, take, drop};
-ghost use Rattle.format.specs.Promises.{Put, FileRoom, FilePut, names_tag};
+ghost use Rattle.std.specs.Prelude.{◌≡◌};
+ghost use Rattle.format.specs.Promises.{FileRoom, FilePut, names_tag};
 ghost use Rattle.load_lists.specs.Promises.{NamesRoom, NamesPut, file_name_lengths, file_name_bytes};
 
 use format::Kind;
 use format::tags::{SRFS, TAGS};
 use headers::{Header, chunk_at};
-use wire::cursor::{Cursor, Text};
-
-// The n bytes at a place into the table from the index m on.
-fn put_bytes(s: &[u8], at: usize, n: usize, table: &mut [u8], m: usize)
-    requires { (at + n ≤ length s.now) × (m + n ≤ length table.old) }
-    ensures { Put table.old m (take n (drop at s.now)) table.new }
-{
-    let mut i = 0;
-    while i < n {
-        table[m + i] = s[at + i];
-        i += 1;
-    }
-}
+use wire::cursor::Cursor;
 
 // A length each from the index k on, and their bytes joined, without terminators, from the index b on.
+// The two tables are lent one by one: of a struct of `&mut` slices the contract would have to say once more which slice is which after the call.
 pub fn put_names(s: &[u8], lengths: &mut [u32], k: usize, bytes: &mut [u8], b: usize)
     requires { NamesRoom s.now lengths.old k bytes.old b }
     ensures { NamesPut s.now lengths.old k lengths.new bytes.old b bytes.new }
@@ -28,13 +17,14 @@ pub fn put_names(s: &[u8], lengths: &mut [u32], k: usize, bytes: &mut [u8], b: u
     let mut at = 8;
     let mut i = k;
     let mut m = b;
+    // A name's length is its own, so the place is moved on by hand.
     while at < s.len() {
         let c = Cursor { at };
-        let Text::Got(n, next) = c.string(s) else {
+        let Ok((n, next)) = c.string(s) else {
             return;
         };
         lengths[i] = n as u32;
-        put_bytes(s, at, n, bytes, m);
+        bytes[m..m + n].copy_from_slice(&s[at..at + n]);
         i += 1;
         m += n;
         at = next.at;
@@ -57,8 +47,9 @@ pub fn fill_names(file: &[u8], kind: Kind, lengths: &mut [u32], bytes: &mut [u8]
     ensures { FilePut file_name_lengths kind file.now lengths.old lengths.new × FilePut file_name_bytes kind file.now bytes.old bytes.new }
 {
     let mut at = 12;
+    // A chunk's length is its own, so the place is moved on by hand.
     while at < file.len() {
-        let Header::Got { tag, end, next } = chunk_at(file, Cursor { at }) else {
+        let Ok(Header { tag, end, next }) = chunk_at(file, Cursor { at }) else {
             return;
         };
         if holds_names(kind, tag) {

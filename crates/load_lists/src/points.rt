@@ -13,13 +13,13 @@ pub fn put_points(s: &[u8], table: &mut [u32], m: usize)
     requires { PointsRoom s.now table.old m }
     ensures { PointsPut s.now table.old m table.new }
 {
-    let n = left(s, 8) / 4;
-    let mut i = 0;
-    while i + POINT_WORDS <= n {
-        table[m + i] = word(s, 8 + i * 4);
-        table[m + i + 1] = word(s, 12 + i * 4);
-        table[m + i + 2] = word(s, 16 + i * 4);
-        i += POINT_WORDS;
+    let n = left(s, 8) / 12;
+    for i in 0..n {
+        let from = 8 + i * 12;
+        let to = m + i * POINT_WORDS;
+        table[to] = word(s, from);
+        table[to + 1] = word(s, from + 4);
+        table[to + 2] = word(s, from + 8);
     }
 }
 
@@ -42,8 +42,9 @@ pub fn fill_points(file: &[u8], kind: Kind, table: &mut [u32])
 {
     let mut at = 12;
     let mut m = 0;
+    // A chunk's length is its own, so the place is moved on by hand.
     while at < file.len() {
-        let Header::Got { tag, end, next } = chunk_at(file, Cursor { at }) else {
+        let Ok(Header { tag, end, next }) = chunk_at(file, Cursor { at }) else {
             return;
         };
         m = put_chunk(&file[at..end], kind, tag, table, m);

@@ -50,7 +50,7 @@ module _ (b : Before) (t : ℕ) (not_points : t is "PNTS" ≡ false) (not_polygo
 
 -- the polygons of the latest POLS, as the code counts them
 abbrev latest_count : Latest → ℕ
-latest_count l = (l.end - l.start) / polygon_size
+latest_count l = (l.ends.polygons - l.start) / polygon_size
 
 module _ {kind : Kind} {t : ℕ} {s : List ℕ} {name_count : ℕ} {l : Latest} {words vertices : List ℕ} where
   pub nothing_new : ((b : Before) → Always Idle (judge kind b t)) → PartPut kind t s name_count l words words vertices vertices l
@@ -63,7 +63,7 @@ module _ {kind : Kind} {t : ℕ} {s : List ℕ} {name_count : ℕ} {l : Latest} 
     points_in : (r : PartRoom kind t s name_count l words vertices) → Made point_list (points_body kind) (drop 8 s) r.part
     points_in r = (holds_points kind e).each r.held.before (drop 8 s) r.part r.sound
 
-    pub points_fit : PartRoom kind t s name_count l words vertices → l.base + l.points < 2 ^ 32
+    pub points_fit : PartRoom kind t s name_count l words vertices → l.lists.base + l.lists.points < 2 ^ 32
     unfolding held_after after
     points_fit r = omega (arith, rw (points_in r).part_is at r.few, r.held_stored.base_is, r.held_stored.points_are)
 
@@ -105,10 +105,10 @@ module _ {kind : Kind} {t : ℕ} {s : List ℕ} {name_count : ℕ} {l : Latest} 
 
   -- polygons, whose body is judged by the latest points and the names so far
   module _ (reader : (points names : ℕ) → Reader Part) (holds : Holds polygons_from (λ b. reader (count b.points) (count b.names)) kind t) where
-    polygons_in : (r : PartRoom kind t s name_count l words vertices) → Made polygons_from (reader l.points l.names) (drop 8 s) r.part
+    polygons_in : (r : PartRoom kind t s name_count l words vertices) → Made polygons_from (reader l.lists.points l.lists.names) (drop 8 s) r.part
     polygons_in r = rw (r.held_stored.points_are, r.held_stored.names_are) (holds.each r.held.before (drop 8 s) r.part r.sound)
 
-    words_fit : (r : PartRoom kind t s name_count l words vertices) → l.end + length (polygons_in r).of.0 * polygon_size ≤ length words
+    words_fit : (r : PartRoom kind t s name_count l words vertices) → l.ends.polygons + length (polygons_in r).of.0 * polygon_size ≤ length words
     unfolding held_after
     words_fit r =
         let ps = (polygons_in r).of.0 in
@@ -117,7 +117,7 @@ module _ {kind : Kind} {t : ℕ} {s : List ℕ} {name_count : ℕ} {l : Latest} 
         let old = length-append r.held.earlier r.held.latest in
         omega (arith, rw (polygons_in r).part_is at r.words_fit, w.start_is, w.end_is, old, length-append (held_polygons r.held) new, length-map ps (from r.held.base))
 
-    vertices_fit : (r : PartRoom kind t s name_count l words vertices) → l.last + vertex_total (polygons_in r).of.0 ≤ length vertices
+    vertices_fit : (r : PartRoom kind t s name_count l words vertices) → l.ends.vertices + vertex_total (polygons_in r).of.0 ≤ length vertices
     unfolding held_after
     vertices_fit r =
         let ps = (polygons_in r).of.0 in
@@ -126,7 +126,7 @@ module _ {kind : Kind} {t : ℕ} {s : List ℕ} {name_count : ℕ} {l : Latest} 
         omega (arith, rw (polygons_in r).part_is at r.vertices_fit, r.held_stored.stored.last_is, both, vertices_from r.held.base ps)
 
     pub polygons_room : PartRoom kind t s name_count l words vertices
-        → body.PolygonsRoom (reader l.points l.names) l.points l.base s 8 words l.end vertices l.last
+        → body.PolygonsRoom (reader l.lists.points l.lists.names) l.lists.points l.lists.base s 8 words l.ends.polygons vertices l.ends.vertices
     unfolding held_after after
     polygons_room r =
         let p = polygons_in r in
@@ -140,7 +140,7 @@ module _ {kind : Kind} {t : ℕ} {s : List ℕ} {name_count : ℕ} {l : Latest} 
         }
 
     pub polygons_put : {words' vertices' : List ℕ} {ends : Ends} {l' : Latest}
-        → body.PolygonsPut (reader l.points l.names) l.base s 8 words l.end words' vertices l.last vertices' ends → l' ≡ with_polygons l ends
+        → body.PolygonsPut (reader l.lists.points l.lists.names) l.lists.base s 8 words l.ends.polygons words' vertices l.ends.vertices vertices' ends → l' ≡ with_polygons l ends
         → PartPut kind t s name_count l words words' vertices vertices' l'
     unfolding held_after after
     polygons_put {words'} {vertices'} {ends} q same = record {
@@ -148,7 +148,7 @@ module _ {kind : Kind} {t : ℕ} {s : List ℕ} {name_count : ℕ} {l : Latest} 
           let p = polygons_in r in
           let ps = p.of.0 in
           let w = r.held_stored in
-          let new = subst (λ base. body.PolygonsStored base ps words l.end words' vertices l.last vertices' ends) w.base_is (q.put ps p.of.1 p.sound) in
+          let new = subst (λ base. body.PolygonsStored base ps words l.ends.polygons words' vertices l.ends.vertices vertices' ends) w.base_is (q.put ps p.of.1 p.sound) in
           rw (p.part_is, same)
           (record {
             base_is = w.base_is;
@@ -162,10 +162,10 @@ module _ {kind : Kind} {t : ℕ} {s : List ℕ} {name_count : ℕ} {l : Latest} 
   -- tags
   module _ (holds : Holds tagging_from (λ b. tagging_body (count b.polygons) (count b.names)) kind t) where
     -- the latest polygons stand from the one index to the other
-    latest_count_lem : (r : PartRoom kind t s name_count l words vertices) → (l.end - l.start) / polygon_size ≡ length r.held.latest
+    latest_count_lem : (r : PartRoom kind t s name_count l words vertices) → (l.ends.polygons - l.start) / polygon_size ≡ length r.held.latest
     latest_count_lem r = omega (arith, r.held_stored.stored.end_is)
 
-    tags_in : (r : PartRoom kind t s name_count l words vertices) → Made tagging_from (tagging_body (length r.held.latest) l.names) (drop 8 s) r.part
+    tags_in : (r : PartRoom kind t s name_count l words vertices) → Made tagging_from (tagging_body (length r.held.latest) l.lists.names) (drop 8 s) r.part
     tags_in r = rw (r.held_stored.polygons_are, r.held_stored.names_are) (holds.each r.held.before (drop 8 s) r.part r.sound)
 
     latest_fits : (r : PartRoom kind t s name_count l words vertices) → l.start + length r.held.latest * polygon_size ≤ length words
@@ -176,10 +176,10 @@ module _ {kind : Kind} {t : ℕ} {s : List ℕ} {name_count : ℕ} {l : Latest} 
         omega (arith, rw (tags_in r).part_is at r.words_fit, r.held_stored.stored.start_is, same, length-append r.held.earlier r.held.latest)
 
     pub tags_room : PartRoom kind t s name_count l words vertices
-        → TagsRoom (whole 0 (tagging_body (latest_count l) l.names) 8 (drop 8 s)) (latest_count l) words l.start
+        → TagsRoom (whole 0 (tagging_body (latest_count l) l.lists.names) 8 (drop 8 s)) (latest_count l) words l.start
     tags_room r = rw (latest_count_lem r) (record { sound = record { value = _; is = (tags_in r).sound }; fits = latest_fits r })
 
-    pub tags_put : {words' : List ℕ} → TagsPut (whole 0 (tagging_body (latest_count l) l.names) 8 (drop 8 s)) (latest_count l) words l.start words'
+    pub tags_put : {words' : List ℕ} → TagsPut (whole 0 (tagging_body (latest_count l) l.lists.names) 8 (drop 8 s)) (latest_count l) words l.start words'
         → PartPut kind t s name_count l words words' vertices vertices l
     unfolding held_after
     tags_put q = record {
@@ -201,7 +201,7 @@ module _ {t : ℕ} {s : List ℕ} {name_count : ℕ} {l : Latest} {words vertice
   layer_in : (r : PartRoom LWO2 t s name_count l words vertices) → r.part ≡ layer
   layer_in r = ((holds_layer e).each r.held.before (drop 8 s) r.part r.sound).part_is
 
-  pub layer_fits : PartRoom LWO2 t s name_count l words vertices → l.base + l.points < 2 ^ 32
+  pub layer_fits : PartRoom LWO2 t s name_count l words vertices → l.lists.base + l.lists.points < 2 ^ 32
   unfolding held_after after
   layer_fits r = omega (arith, rw (layer_in r) at r.few, r.held_stored.base_is, r.held_stored.points_are)
 

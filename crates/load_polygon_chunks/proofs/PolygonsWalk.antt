@@ -2,9 +2,11 @@
 use mathlib.Core.Path.{◌≡◌, refl, sym, ap, ◌∙◌}
 use mathlib.Core.List.{List, [], ◌∷◌, ◌++◌, map, append_assoc}
 use mathlib.Core.Option.{none, some}
-use Prim.Native.Nat.{ℕ, ◌+◌, ◌-◌, ◌≤◌}
+use Prim.Native.Nat.{ℕ, ◌+◌, ◌-◌, ◌≤◌, ◌<◌}
 use native.Mathlib.Omega.{arith}
 use lib.ListN.{length, take, drop, length-append, length-drop}
+use Rattle.std.specs.Prelude.{Result, Ok, Err}
+use Rattle.std.specs.Result.{IsOk}
 use Rattle.format.specs.declared.Kind.{Kind}
 use Rattle.format.specs.Bytes.{joined}
 use Rattle.format.specs.Items.{fine}
@@ -17,12 +19,12 @@ use Rattle.format.proofs.Verdicts.{same_fine}
 use Rattle.format.proofs.SizeBound.{things, chunk_bound}
 use Rattle.format.proofs.OneNameList.{no_more_names, first_names}
 use Rattle.format.proofs.Puts.{total_append}
-use Rattle.wire.specs.declared.cursor.Cursor.{Cursor}
+use Rattle.wire.specs.declared.Refusal.{Refusal}
 use Rattle.headers.specs.declared.Header.{Header}
 use Rattle.headers.specs.Promises.{HeaderAt}
 use Rattle.headers.proofs.ChunkInFile.{long}
 use Rattle.headers.proofs.FileWalk as walk
-use Rattle.headers.proofs.FileWalk.{WalkedTo, ChunkHere, none_left, after_chunk}
+use Rattle.headers.proofs.FileWalk.{WalkedTo, ChunkHere, none_left, never_bad, after_chunk}
 use Rattle.load_polygon_chunks.specs.declared.polygons.Latest.{Latest}
 use Rattle.load_polygon_chunks.specs.Promises.{all_polygons, file_polygons, file_vertices, FilePolygonsRoom}
 use Rattle.load_polygon_chunks.specs.Held.{Held, nothing_held, end_of, held_polygons, held_after, nothing_latest, HeldStored, PartRoom, PartPut}
@@ -151,15 +153,20 @@ module _ {kind : Kind} {file : List ℕ} {name_count : ℕ} {words₀ vertices�
         record { put = λ parts e. rw (same_fine (sym e ∙ f.room.sound), ← whole_list) f.held_stored.stored.put_vertices },
       )
 
-  module _ {tag : ℕ} {last : ℕ} {c : Cursor} (h : HeaderAt 4 file at (Header.Got tag last c)) where
-    abbrev lent : List ℕ
-    lent = take (last - at) (drop at file)
+  -- its header was judged to be good
+  pub header_there : at < length file → (answer : Result Header Refusal) → HeaderAt 4 file at answer → IsOk answer
+  header_there more (Ok head) h = refl
+  header_there more (Err e) h = absurd (never_bad f.walked more h)
 
-    this : ChunkHere f.walked tag lent c.at
+  module _ {head : Header} (h : HeaderAt 4 file at (Ok head)) where
+    abbrev lent : List ℕ
+    lent = take (head.end - at) (drop at file)
+
+    this : ChunkHere f.walked head.tag lent head.next.at
     this = walk.chunk_here f.walked h
 
-    sound : judge kind f.held.before tag (drop 8 lent) ≡ fine this.part
-    sound = ap (λ b. judge kind b tag (drop 8 lent)) f.judged_by ∙ this.here
+    sound : judge kind f.held.before head.tag (drop 8 lent) ≡ fine this.part
+    sound = ap (λ b. judge kind b head.tag (drop 8 lent)) f.judged_by ∙ this.here
 
     abbrev later : Held
     later = held_after f.held this.part
@@ -172,22 +179,22 @@ module _ {kind : Kind} {file : List ℕ} {name_count : ℕ} {words₀ vertices�
 
     later_named : count later.before.names + length (names_of_parts this.later) ≡ name_count
     later_named =
-        let first : (ns : List Name) → this.part ≡ name_list ns → f.held.before.names ≡ none = λ ns e. first_names kind f.held.before tag _ ns (sound ∙ ap fine e) in
+        let first : (ns : List Name) → this.part ≡ name_list ns → f.held.before.names ≡ none = λ ns e. first_names kind f.held.before head.tag _ ns (sound ∙ ap fine e) in
         let parts : length (names_of_parts (this.part ∷ this.later)) ≡ length (names_of_parts f.walked.more) = ap (λ ps. length (names_of_parts ps)) this.both in
         rw (same_before f.held this.part) (omega (arith, names_after f.held.before this.part this.later first, parts, f.named))
 
-    later_few : end_of later ≤ c.at
+    later_few : end_of later ≤ head.next.at
     later_few =
-        let w = (chunk_bound kind f.held.before tag).each _ this.part sound in
+        let w = (chunk_bound kind f.held.before head.tag).each _ this.part sound in
         omega (arith, f.few, w, end_after f.held this.part, length-drop 8 lent, long h, h.inside)
 
     -- a file lists its names once at most, so that none follow
     all_names : (n : ℕ) → later.before.names ≡ some n → n ≡ name_count
     all_names n e =
-        let none_follow = no_more_names kind later.before n c.at (chunks (drop c.at file)) this.later e (rw later_judged this.onward) in
+        let none_follow = no_more_names kind later.before n head.next.at (chunks (drop head.next.at file)) this.later e (rw later_judged this.onward) in
         omega (arith, rw (e, none_follow) at later_named)
 
-    pub part_room : PartRoom kind tag lent name_count l words vertices
+    pub part_room : PartRoom kind head.tag lent name_count l words vertices
     part_room =
         let w = fewer this.later later in
         record {
@@ -203,8 +210,8 @@ module _ {kind : Kind} {file : List ℕ} {name_count : ℕ} {words₀ vertices�
           vertices_fit = omega (arith, w.vertices, ap (λ ps. length (polygons_vertices ps)) later_all, f.room.vertices_fit, f.held_stored.stored.kept_vertices);
         }
 
-    pub turn : {words' vertices' : List ℕ} {l' : Latest} → PartPut kind tag lent name_count l words words' vertices vertices' l'
-        → PolygonsTo kind file name_count words₀ vertices₀ words' vertices' c.at l'
+    pub turn : {words' vertices' : List ℕ} {l' : Latest} → PartPut kind head.tag lent name_count l words words' vertices vertices' l'
+        → PolygonsTo kind file name_count words₀ vertices₀ words' vertices' head.next.at l'
     unfolding part_room after_chunk
     turn w = record {
       room = f.room;

@@ -8,6 +8,7 @@ use Rattle.format.specs.Mesh.{Polygon, polygon_size}
 use Rattle.format.specs.Bodies.{Part, point_list, name_list, polygon_list, tagging, surface, layer, skipped_chunk}
 use Rattle.format.specs.Rules.{Before, start, after, count, judge, from, tagged}
 use Rattle.format.specs.Promises.{Put, polygons_words, polygons_vertices}
+use Rattle.load_vertices.specs.declared.Lists.{Lists}
 use Rattle.load_vertices.specs.declared.Ends.{Ends}
 use Rattle.load_polygon_chunks.specs.declared.polygons.Latest.{Latest}
 
@@ -48,19 +49,23 @@ held_after h skipped_chunk = h
 -- ---- what the code keeps of them
 
 abbrev pub nothing_latest : Latest
-nothing_latest = record { base = 0; points = 0; names = 0; start = 0; end = 0; last = 0 }
+nothing_latest = record { lists = record { base = 0; points = 0; names = 0 }; ends = record { polygons = 0; vertices = 0 }; start = 0 }
+
+-- a list of points after those of the lists before it
+abbrev pub points_after : Lists → ℕ → Lists
+points_after l n = record { base = l.base + l.points; points = n; names = l.names }
 
 abbrev pub with_points : Latest → ℕ → Latest
-with_points l n = record { base = l.base + l.points; points = n; names = l.names; start = l.start; end = l.end; last = l.last }
+with_points l n = record { lists = points_after l.lists n; ends = l.ends; start = l.start }
 
 abbrev pub with_names : Latest → ℕ → Latest
-with_names l n = record { base = l.base; points = l.points; names = n; start = l.start; end = l.end; last = l.last }
+with_names l n = record { lists = record { base = l.lists.base; points = l.lists.points; names = n }; ends = l.ends; start = l.start }
 
 abbrev pub with_polygons : Latest → Ends → Latest
-with_polygons l e = record { base = l.base; points = l.points; names = l.names; start = l.end; end = e.polygons; last = e.vertices }
+with_polygons l e = record { lists = l.lists; ends = e; start = l.ends.polygons }
 
 abbrev pub with_layer : Latest → Latest
-with_layer l = record { base = l.base + l.points; points = 0; names = l.names; start = l.end; end = l.end; last = l.last }
+with_layer l = record { lists = points_after l.lists 0; ends = l.ends; start = l.ends.polygons }
 
 -- The polygons stand at the front of the tables, which were words₀ and vertices₀. The words of the latest stand from the index `start` to `end`, and all
 -- vertices before the index `last`.
@@ -75,11 +80,11 @@ pub record AllStored (earlier latest : List Polygon) (start end last : ℕ) (wor
 
 -- what is held stands in the tables, and the code's numbers say so
 pub record HeldStored (h : Held) (l : Latest) (words₀ words vertices₀ vertices : List ℕ) : Type 0 where
-  pub base_is : l.base ≡ h.base
-  pub points_are : l.points ≡ count h.before.points
-  pub names_are : l.names ≡ count h.before.names
+  pub base_is : l.lists.base ≡ h.base
+  pub points_are : l.lists.points ≡ count h.before.points
+  pub names_are : l.lists.names ≡ count h.before.names
   pub polygons_are : length h.latest ≡ count h.before.polygons
-  pub stored : AllStored h.earlier h.latest l.start l.end l.last words₀ words vertices₀ vertices
+  pub stored : AllStored h.earlier h.latest l.start l.ends.polygons l.ends.vertices words₀ words vertices₀ vertices
 
 -- ---- one chunk
 

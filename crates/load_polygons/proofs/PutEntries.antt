@@ -4,21 +4,21 @@ use mathlib.Core.List.{List, [], ◌∷◌, ◌++◌, map, map-id, map-append, a
 use Prim.Native.Nat.{ℕ, ◌+◌, ◌≤◌, ◌<◌}
 use native.Mathlib.Omega.{arith}
 use lib.ListN.{length, drop, length-append}
-use Rattle.format.specs.declared.Fault.TheVariants.{ItemCut}
+use Rattle.format.specs.declared.Fault.TheVariants.{PolygonType}
 use Rattle.format.specs.Bytes.{sum, joined}
-use Rattle.format.specs.Items.{◌and_then◌, Verdict, fault, Got, whole, u4}
+use Rattle.format.specs.Items.{◌and_then◌, Verdict, Got, whole, u4}
 use Rattle.format.specs.Mesh.{Polygon, polygon_words, polygon_size}
-use Rattle.format.specs.Bodies.{polygon_list, polygon_kind, polygons_body}
+use Rattle.format.specs.Bodies.{polygon_list, polygon_kind, polygon_type, polygons_body}
 use Rattle.format.specs.Rules.{from}
 use Rattle.format.specs.Promises.{keep, got, itself, Says, Succeeds, Put, polygons_listed, vertex_total}
-use Rattle.format.proofs.ReaderSteps.{exactly, stopped, cut}
+use Rattle.format.proofs.ReaderSteps.{exactly}
 use Rattle.format.proofs.Entries.{ManyLoop, many_begin, many_turn, many_end}
-use Rattle.format.proofs.Inversion.{Entry, many_sound, sound_whole, sound_not, sound_first, sound_good, then_at}
+use Rattle.format.proofs.Inversion.{Entry, many_sound, sound_whole, sound_first, sound_good, then_at}
 use Rattle.format.proofs.Facts.{sum_map_append}
 use Rattle.format.proofs.PolygonTables.{words_from, vertices_from}
 use Rattle.format.proofs.Puts.{joined_append, put_none, put_length, put_append}
-use Rattle.polygon_layouts.specs.declared.Layout.{Layout}
-use Rattle.polygon_layouts.specs.Layouts.{EntryOf, entry_of, part_of, entries_of}
+use Rattle.polygon_layouts.specs.Layouts.{Layout, EntryOf, entry_of, part_of, entries_of}
+use Rattle.wire.proofs.ReadAgain.{sound_item}
 use Rattle.load_vertices.specs.declared.Lists.{Lists}
 use Rattle.load_vertices.specs.declared.Ends.{Ends}
 use Rattle.load_vertices.specs.Promises.{EntryPut}
@@ -185,9 +185,9 @@ module _ {points base : ℕ} {s words : List ℕ} {i : ℕ} {vertices : List ℕ
   read : Succeeds (polygons_body points 8 (drop 8 s))
   read = let u = sound_whole (polygons_body points) 0 8 (drop 8 s) (record { value = _; is = r.sound }) in record { value = u.got; is = u.is }
 
-  pub never_cut : {p : ℕ} → Says u4 itself s 8 (fault ItemCut p) → ⊥
+  pub type_fine : Succeeds (u4 8 (drop 8 s))
   unfolding polygons_body
-  never_cut w = sound_not (sound_first _ _ 8 (drop 8 s) read) (stopped {h = itself} (cut _ _ w))
+  type_fine = sound_item u4 PolygonType polygon_type 8 (drop 8 s) (sound_first _ _ 8 (drop 8 s) read)
 
   module _ {t next : ℕ} (w : Says u4 itself s 8 (got s t next)) where
     after_type : whole 0 (polygons_body points) 8 (drop 8 s) ≡ whole 0 (entries_of (Layout.Polygons (polygon_kind t)) points 0) next (drop next s)

@@ -5,7 +5,7 @@ use Prim.Native.Nat.{ℕ, ◌+◌}
 use native.Mathlib.Omega.{arith}
 use lib.Dec.{leb}
 use lib.ListN.{length, drop}
-use Rattle.format.specs.Items.{fine, Got, ◌>>=◌, give, u2, vx}
+use Rattle.format.specs.Items.{fine, Got, give, u2, vx}
 use Rattle.format.specs.Mesh.{polygon_of, Polygon}
 use Rattle.format.specs.Bodies.{count_bits, lwo2_vertices, polygon}
 use Rattle.format.specs.Promises.{got, itself, taking, ReadsAt, Succeeds, Put}

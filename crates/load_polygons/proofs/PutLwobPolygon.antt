@@ -6,24 +6,29 @@ use Prim.Native.Nat.{ℕ}
 use native.Mathlib.Omega.{arith}
 use lib.ListN.{drop}
 use lib.IntN.{ℤ}
+use Rattle.std.specs.Prelude.{Result}
+use Rattle.std.specs.Result.{IsOk}
 use Rattle.format.specs.declared.Fault.{Fault}
 use Rattle.format.specs.declared.Fault.TheVariants.{SurfaceNumber}
 use Rattle.format.specs.Bytes.{between, absolute}
-use Rattle.format.specs.Items.{fine, fault, Got, Reader, ◌>>=◌, give, ◌or◌unless◌, i2}
+use Rattle.format.specs.Items.{fine, Got, Reader, ◌>>=◌, give, ◌or◌unless◌, i2}
 use Rattle.format.specs.Mesh.{polygon_of, Polygon, FACE, PATCH}
 use Rattle.format.specs.Bodies.{lwob_vertices, details_after, face, patch}
 use Rattle.format.specs.Promises.{got, itself, each, Says, ReadsAt, Succeeds}
 use Rattle.format.proofs.ReaderSteps.{Met, met, exact, exactly, on, given}
 use Rattle.format.proofs.Inversion.{sound_first, sound_next, sound_good}
 use Rattle.format.proofs.Verdicts.{same_fine, then_fine, chosen}
-use Rattle.wire.specs.Promises.{signed_surface_of}
-use Rattle.wire.proofs.ReadAgain.{never}
+use Rattle.wire.specs.declared.Refusal.{Refusal}
+use Rattle.wire.specs.declared.cursor.Cursor.{Cursor}
+use Rattle.wire.specs.declared.cursor.SignedSurface.{SignedSurface}
+use Rattle.wire.specs.Promises.{signed_surface_of, read_as}
 use Rattle.polygon_details.specs.Promises.{details_if}
 use Rattle.polygon_details.proofs.DetailsBySign.{by_sign}
 use Rattle.load_vertices.specs.declared.Lists.{Lists}
 use Rattle.load_vertices.specs.declared.Ends.{Ends}
-use Rattle.load_vertices.specs.declared.lwob_entry.LwobEntryStored.{LwobEntryStored}
+use Rattle.load_vertices.specs.declared.PolygonStored.{PolygonStored}
 use Rattle.load_vertices.specs.Promises.{EntryRoom, EntryPut, lwob_entry, LwobEntryPut}
+use Rattle.load_vertices.proofs.Unwrapped.{there}
 use Rattle.load_vertices.proofs.VerticesAfterCount.{after_first}
 use Rattle.load_vertices.proofs.PutLwobEntry.{surfaced, rest}
 
@@ -100,28 +105,30 @@ module _ {l : Lists} {e : Ends} {s : List ℕ} {at : ℕ} {words vertices : List
         let o = face_start l.points l.names at (drop at s) r.sound.value r.sound.is in
         record { sound = record { value = o.0; is = o.1 }; words_fit = r.words_fit; vertices_fit = rw o.2 r.vertices_fit; small = r.small }
 
-    module _ {words' vertices' : List ℕ} {answer : LwobEntryStored} (q : LwobEntryPut FACE l e s at words words' vertices vertices' answer) where
+    module _ {words' vertices' : List ℕ} {put : PolygonStored} {sign : SignedSurface} (q : LwobEntryPut FACE l e s at words words' vertices vertices' (put, sign)) where
       abbrev rule : ℤ → Bool
       rule z = between 1 l.names (absolute z)
 
       -- the surface number that was read, and that it was judged to be good
-      number_read : Met signed_surface_of (i2 q.end (drop q.end s)) s answer.sign answer.next.at
+      number_read : Met signed_surface_of (i2 q.end (drop q.end s)) s sign put.next.at
       number_read = met q.sign.says
 
-      number_good : Says (i2 or SurfaceNumber unless rule) itself s q.end (got s number_read.value answer.next.at)
+      number_good : Says (i2 or SurfaceNumber unless rule) itself s q.end (got s number_read.value put.next.at)
       unfolding face
       number_good = sound_good SurfaceNumber rule (exact (sym number_read.is))
           (sound_first _ _ q.end (drop q.end s) (sound_next _ _ q.run r.sound))
 
-      details_sound : Succeeds (details_after l.points l.names number_read.value answer.next.at (drop answer.next.at s))
+      details_sound : Succeeds (details_after l.points l.names number_read.value put.next.at (drop put.next.at s))
       unfolding face
       details_sound = sound_first _ _ _ _ (sound_next _ _ number_good (sound_next _ _ q.run r.sound))
 
-      pub details_stop : {why : Fault} {p : ℕ} → Says (details_if answer.sign.negative l.points l.names) itself s answer.next.at (fault why p) → ⊥
-      details_stop d = never details_sound (by_sign l.points l.names number_read.value number_read.shows d)
+      pub details_there : (answer : Result (ℕ × Cursor) Refusal)
+          → ReadsAt (details_if sign.negative l.points l.names) (each 2) s put.next.at (read_as s answer) → IsOk answer
+      details_there answer d = there answer details_sound
+          (record { says = by_sign l.points l.names number_read.value number_read.shows d.says; moves = d.moves })
 
-      pub face_put : {n next : ℕ} → ReadsAt (details_if answer.sign.negative l.points l.names) (each 2) s answer.next.at (got s n next)
-          → EntryPut (face l.points l.names) (λ f. f.0) l e s at words words' vertices vertices' next answer.vertices
+      pub face_put : {n next : ℕ} → ReadsAt (details_if sign.negative l.points l.names) (each 2) s put.next.at (got s n next)
+          → EntryPut (face l.points l.names) (λ f. f.0) l e s at words words' vertices vertices' next put.vertices
       unfolding face
       face_put {n} d =
           let z = number_read.value in

@@ -5,12 +5,11 @@ use Rattle.format.specs.Mesh.{Polygon, polygon_size}
 use Rattle.format.specs.Bodies.{Part, polygon_list}
 use Rattle.format.specs.Rules.{from}
 use Rattle.format.specs.Promises.{itself, Put, polygons_words, polygons_vertices, vertex_total}
-use Rattle.polygon_layouts.specs.declared.Layout.{Layout}
-use Rattle.polygon_layouts.specs.Layouts.{EntryOf, entry_of}
+use Rattle.polygon_layouts.specs.Layouts.{Layout, EntryOf, entry_of}
 use Rattle.load_vertices.specs.declared.Lists.{Lists}
 use Rattle.load_vertices.specs.declared.Ends.{Ends}
+use Rattle.load_vertices.specs.declared.PolygonStored.{PolygonStored}
 use Rattle.load_vertices.specs.Promises.{EntryRoom, EntryPut}
-use Rattle.load_polygons.specs.declared.entries.PolygonStored.{PolygonStored}
 
 -- ---- an entry
 

@@ -6,3 +6,8 @@ pub mod entries;
 pub mod faces;
 pub mod patches;
 pub mod polygons;
+
+// The kinds that the table of polygons has for faces and patches: numbers and no enum, as the words in the table, which the C interface hands out.
+const FACE: u32 = 1;
+
+const PATCH: u32 = 2;

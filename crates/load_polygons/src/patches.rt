@@ -1,31 +1,30 @@
 // The patches of a PCHS body into the tables of polygons and of vertices.
 ghost use Rattle.format.specs.Bodies.{patches_body};
-ghost use Rattle.polygon_layouts.specs.declared.Layout.{Layout};
-ghost use Rattle.load_polygons.specs.Promises.{RoomIn, PutIn, BodyRoom, BodyPut};
+ghost use Rattle.polygon_layouts.specs.Layouts.{Layout};
+ghost use Rattle.load_polygons.specs.Promises.{BodyRoom, BodyPut};
 
-use crate::entries::{PolygonStored, put_entries};
+use crate::PATCH;
+use crate::entries::{Loaded, put_entries};
 use load_vertices::lwob_entry::put_lwob_entry;
-use load_vertices::{Ends, Lists};
-use polygon_layouts::Layout;
+use load_vertices::{Ends, Lists, PolygonStored};
+use polygon_layouts::Patches;
 use wire::cursor::Cursor;
 
-// A patch. Its surface number was judged not to be negative, so that no details follow it.
-pub fn put_patch(
-    s: &[u8],
-    c: Cursor,
-    lists: Lists,
-    ends: Ends,
-    polygons: &mut [u32],
-    vertices: &mut [u32],
-) -> PolygonStored
-    requires { RoomIn Layout.Patches lists ends s.now c.at polygons.old vertices.old }
-    ensures { PutIn Layout.Patches lists ends s.now c.at polygons.old polygons.new vertices.old vertices.new result }
-{
-    let put = put_lwob_entry(s, c, 2, lists, ends, polygons, vertices);
-    let next = put.next;
-    PolygonStored {
-        next,
-        vertices: put.vertices,
+impl Loaded for Patches {
+    ghost layout = { λ p. Layout.Patches };
+
+    // The surface number of a patch was judged not to be negative, so that no details follow it.
+    fn put(
+        &self,
+        s: &[u8],
+        c: Cursor,
+        lists: Lists,
+        ends: Ends,
+        polygons: &mut [u32],
+        vertices: &mut [u32],
+    ) -> PolygonStored {
+        let (put, _) = put_lwob_entry(s, c, PATCH, lists, ends, polygons, vertices);
+        put
     }
 }
 
@@ -43,7 +42,7 @@ pub fn put_patches(
     put_entries(
         s,
         Cursor { at: 8 },
-        Layout::Patches,
+        &Patches,
         lists,
         ends,
         polygons,

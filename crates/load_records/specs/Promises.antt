@@ -1,5 +1,5 @@
 -- Records in code and in the specification.
-use Rattle.std.specs.Prelude.{ℕ, ◌≡◌, List, Float, if◌then◌else◌}
+use Rattle.std.specs.Prelude.{ℕ, ◌≡◌, List, Float, Option, if◌then◌else◌}
 use Rattle.format.specs.declared.Kind.{Kind}
 use Rattle.format.specs.declared.Kind.TheVariants.{LWOB, LWO2}
 use Rattle.format.specs.Bytes.{f32_one}
@@ -9,7 +9,6 @@ use Rattle.format.specs.Surfaces.{bit, record_of}
 use Rattle.format.specs.Bodies.{Part, point_list, name_list, polygon_list, tagging, surface, layer, skipped_chunk, surface_body}
 use Rattle.format.specs.Promises.{Judged}
 use Rattle.surface_levels.specs.Levels.{HasBits, bits}
-use Rattle.load_values.specs.declared.last_values.Last.{Last}
 use Rattle.load_records.specs.declared.record.Record.{Record}
 use Rattle.load_values.specs.LastValues.{LevelWords, Taken, no_words, word_of}
 
@@ -76,7 +75,7 @@ record_from LWO2 t = settled_of t no_words f32_one 0 t.sides
 
 -- ---- answers
 
-pub record LevelIs (long short : Last) (missing x : Float) : Type 0 where
+pub record LevelIs (long short : Option Float) (missing x : Float) : Type 0 where
   pub is : bits x ≡ word_of long (word_of short (bits missing))
   pub has_bits : HasBits x
 

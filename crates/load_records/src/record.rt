@@ -4,15 +4,14 @@ ghost use Rattle.format.specs.Items.{whole};
 ghost use Rattle.format.specs.Bodies.{surface_body};
 ghost use Rattle.format.specs.Promises.{Succeeds};
 ghost use Rattle.surface_levels.specs.Levels.{HasBits, bits};
-ghost use Rattle.load_values.specs.LastValues.{LastLevelsHaveBits, LastValuesHaveBits, level_words, taken_of};
+ghost use Rattle.load_values.specs.LastValues.{LevelHasBits, LastLevelsHaveBits, LastValuesHaveBits, level_words, taken_of};
 ghost use Rattle.load_records.specs.Promises.{LevelIs, GlowIs, sides_in, settled_of, record_from, RecordIs, MissingIs, RecordAt};
 
 use format::{Kind, MISSING_COLOUR};
-use load_values::last_values::{Last, LastValues, Levels, last_values};
+use load_values::last_values::{LastValues, Levels, last_values};
 use surface_values::strings::strings;
-use wire::Step;
 
-#[derive(Clone, Copy)]
+#[derive(Clone, Copy, Debug, PartialEq)]
 pub struct Record {
     pub defined: u32,
     pub red: f32,
@@ -41,17 +40,11 @@ fn sides(flags: u32) -> u32
 }
 
 // A level, of which the float form wins over the short one in either order.
-fn level(long: Last, short: Last, missing: f32) -> f32
-    requires { HasBits long.level × HasBits short.level × HasBits missing }
+fn level(long: Option<f32>, short: Option<f32>, missing: f32) -> f32
+    requires { LevelHasBits long × LevelHasBits short × HasBits missing }
     ensures { LevelIs long short missing result }
 {
-    if long.met {
-        return long.level;
-    }
-    if short.met {
-        return short.level;
-    }
-    missing
+    long.or(short).unwrap_or(missing)
 }
 
 impl Record {
@@ -84,7 +77,7 @@ impl Record {
         let flags = values.flags;
         match kind {
             Kind::LWOB => Self::settled(values, long, 0.0, glow(flags), sides(flags)),
-            Kind::LWO2 => Self::settled(values, Levels::none(), 1.0, 0.0, values.sides),
+            Kind::LWO2 => Self::settled(values, Levels::default(), 1.0, 0.0, values.sides),
         }
     }
 
@@ -112,7 +105,7 @@ pub fn record_of(s: &[u8], kind: Kind) -> Record
     requires { Succeeds (whole 0 (surface_body kind) 8 (drop 8 s.now)) }
     ensures { RecordAt kind s.now result }
 {
-    let Step::At(first) = strings(s, kind) else {
+    let Ok(first) = strings(s, kind) else {
         return Record::missing();
     };
     Record::of_values(last_values(s, first, kind), kind)

@@ -1,6 +1,6 @@
 -- Where the listed names are all different, a record that is stored at those equal to one name is stored at one entry, or at none.
-use Rattle.std.specs.Prelude.{if◌then◌else◌}
-use Prim.Native.Nat.{ℕ, zero, suc, ◌+◌, ◌-◌, ◌*◌, ◌<◌, ◌≤◌}
+use Rattle.std.specs.Prelude.{if◌then◌else◌, Some, None}
+use Prim.Native.Nat.{ℕ, zero, suc, ◌+◌, ◌*◌, ◌<◌, ◌≤◌}
 use mathlib.Core.Path.{◌≡◌, refl, sym, ap, ◌∙◌}
 use mathlib.Core.List.{List, [], ◌∷◌, ◌++◌, append_assoc}
 use mathlib.Core.Bool.{Bool, true, false, true≢false, false≢true}
@@ -13,10 +13,12 @@ use Rattle.format.specs.Written.{pieces}
 use Rattle.format.specs.Promises.{Put}
 use Rattle.format.proofs.AmongstNames.{is_amongst}
 use Rattle.format.proofs.SameLists.{same_eq, same_refl}
-use Rattle.name_index.specs.Index.{name_of, names_of, Found, Different, and_name}
+use Rattle.name_index.specs.declared.NameIndex.{NameIndex}
+use Rattle.name_index.specs.Index.{name_of, Found, Different, and_name}
+use Rattle.name_index.specs.NameIndex.{words_in, names_in}
 use Rattle.name_index.specs.Listed.{AllHeld}
 use Rattle.name_index.proofs.Links.{name_at}
-use Rattle.load_surface_chunks.specs.Promises.{with_record, ListedRoom, MayBeIndexed}
+use Rattle.load_surface_chunks.specs.Promises.{with_record, ListedRoom, Indexed}
 
 -- ---- a name that is not listed
 
@@ -65,16 +67,18 @@ at_one x s (n ∷ ns) t (suc k) (and_name new d) l e =
 
 -- ---- by what the index told
 
-module _ {x bytes words : List ℕ} {r : ℕ} (f : Found x bytes 0 words r) (s : Surface) (t : List ℕ) where
-  pub put_nowhere : r ≡ 0 → t ≡ with_record x s (names_of bytes 0 words) t
-  put_nowhere z = sym (nowhere x s (names_of bytes 0 words) t (f.no z))
+module _ (x : Name) (i : NameIndex) (s : Surface) (t : List ℕ) where
+  pub put_nowhere : Found x i.bytes.now i.base (words_in i) None → t ≡ with_record x s (names_in i) t
+  put_nowhere none = sym (nowhere x s (names_in i) t none)
 
-  pub put_at_one : (r ≡ 0 → ⊥) → Different (names_of bytes 0 words) → {t' : List ℕ} → Put t ((r - 1) * record_size) (surface_words s) t' → t' ≡ with_record x s (names_of bytes 0 words) t
-  put_at_one some d p =
-      let l : r - 1 < length words = omega (arith, f.few) in
-      let m = length-map words (name_of bytes 0) in
-      p.put ∙ append_assoc (take ((r - 1) * record_size) t) (surface_words s) (drop ((r - 1) * record_size + record_size) t)
-      ∙ sym (at_one x s (names_of bytes 0 words) t (r - 1) d (omega (arith, m)) (name_at bytes 0 words (r - 1) l ∙ f.yes (omega arith)))
+  module _ (k : ℕ) (f : Found x i.bytes.now i.base (words_in i) (Some k)) where
+    pub inside : k < length (names_in i)
+    inside = let m = length-map (words_in i) (name_of i.bytes.now i.base) in omega (arith, m, f.0)
+
+    pub put_at_one : Different (names_in i) → {t' : List ℕ} → Put t (k * record_size) (surface_words s) t' → t' ≡ with_record x s (names_in i) t
+    put_at_one d p =
+        p.put ∙ append_assoc (take (k * record_size) t) (surface_words s) (drop (k * record_size + record_size) t)
+        ∙ sym (at_one x s (names_in i) t k d inside (name_at i.bytes.now i.base (words_in i) k f.0 ∙ f.1))
 
 -- ---- a table that has an index
 
@@ -83,16 +87,13 @@ unfolding pieces
 pieces_count [] bytes = refl
 pieces_count (n ∷ ns) bytes = ap suc (pieces_count ns (drop n bytes))
 
-pub no_index : {multiplier : ℕ} {lengths bytes places links : List ℕ} → MayBeIndexed multiplier lengths bytes places [] links
-no_index = record { index = λ l. absurd (omega arith); are = λ l. absurd (omega arith); different = λ l. absurd (omega arith) }
+module _ {lengths bytes : List ℕ} {x : NameIndex} (w : Indexed lengths bytes x) where
+  pub held_different : Different (names_in x)
+  held_different = rw w.are w.different
 
-module _ {multiplier : ℕ} {lengths bytes places heads links : List ℕ} (w : MayBeIndexed multiplier lengths bytes places heads links) (some : 0 < length heads) where
-  pub held_different : Different (names_of bytes 0 places)
-  held_different = rw (w.are some) (w.different some)
+  pub indexed_room : {records : List ℕ} → ListedRoom lengths bytes records → length (names_in x) * record_size ≤ length records
+  indexed_room r = omega (arith, ap length w.are, pieces_count lengths bytes, r.fits)
 
-  pub indexed_room : {records : List ℕ} → ListedRoom lengths bytes records → length places * record_size ≤ length records
-  indexed_room r = omega (arith, length-map places (name_of bytes 0), ap length (w.are some), pieces_count lengths bytes, r.fits)
-
-pub held_index : {multiplier : ℕ} {lengths bytes places heads links : List ℕ} → AllHeld multiplier lengths bytes places heads links → Different (pieces lengths bytes)
-    → MayBeIndexed multiplier lengths bytes (take (length lengths) places) heads links
-held_index h d = record { index = λ some. h.index; are = λ some. h.are; different = λ some. d }
+pub held_index : {multiplier : ℕ} {lengths bytes : List ℕ} {x : NameIndex} → AllHeld multiplier lengths bytes x → Different (pieces lengths bytes)
+    → Indexed lengths bytes x
+held_index h d = record { index = h.index; are = h.are; different = d }

@@ -1,4 +1,5 @@
 -- A SURF that was judged fine is its name and values, and no other chunk has any.
+use Rattle.std.specs.Prelude.{Ok, Err}
 use mathlib.Core.Path.{◌≡◌, refl, sym, ap, ◌∙◌}
 use mathlib.Core.List.{List, []}
 use mathlib.Core.Bool.{true, false}
@@ -22,8 +23,8 @@ use Rattle.format.proofs.Indexed.{part}
 use Rattle.format.proofs.ReaderSteps.{exactly}
 use Rattle.format.proofs.Verdicts.{then_fine, chosen, same_fine}
 use Rattle.format.proofs.PartByTag.{holds_surface, always}
+use Rattle.wire.specs.declared.Refusal.{Refusal}
 use Rattle.wire.specs.declared.cursor.Cursor.{Cursor}
-use Rattle.wire.specs.declared.cursor.Text.{Text}
 use Rattle.wire.specs.Promises.{TextAt}
 use Rattle.load_records.specs.declared.record.Record.{Record}
 use Rattle.load_records.specs.Promises.{surface_of, RecordAt}
@@ -59,7 +60,7 @@ starts kind body e =
     let s = starts_name kind body n.0 n.1 in
     record { got = s.got; reads = s.reads; value_is = s.value_is ∙ name_is }
 
-module _ {s : List ℕ} {n : ℕ} {c : Cursor} (w : TextAt s 8 (Text.Got n c)) where
+module _ {s : List ℕ} {n : ℕ} {c : Cursor} (w : TextAt s 8 (Ok (n, c))) where
   pub name_inside : 8 + n ≤ length s
   name_inside = let m = simp (length-take, length-drop) at w.reads.moves in omega (arith, m, w.inside)
 
@@ -89,7 +90,7 @@ module _ {kind : Kind} {t : ℕ} {s : List ℕ} (e : t is "SURF" ≡ true) where
   pub sound_body : ChunkSound kind t s → Succeeds (whole 0 (surface_body kind) 8 (drop 8 s))
   sound_body c = let x = (holds_surface kind e).each c.before (drop 8 s) c.part c.sound in record { value = surface x.of; is = x.sound }
 
-  pub never_open : ChunkSound kind t s → TextAt s 8 Text.Open → ⊥
+  pub never_open : ChunkSound kind t s → {f : Refusal} → TextAt s 8 (Err f) → ⊥
   never_open c w =
       let x = (holds_surface kind e).each c.before (drop 8 s) c.part c.sound in
       impossible (cc (sym (exactly w.reads.says) ∙ (starts kind (drop 8 s) x.sound).reads))
@@ -100,7 +101,7 @@ module _ {kind : Kind} {t : ℕ} {s lengths bytes records : List ℕ} where
   pub put_nothing : t is "SURF" ≡ false → SurfacesPut kind t s lengths bytes records records
   put_nothing e = record { put = λ b part j. rw (no_surfaces kind b t (drop 8 s) part e j) refl }
 
-  module _ (e : t is "SURF" ≡ true) {n : ℕ} {c : Cursor} (w : TextAt s 8 (Text.Got n c)) where
+  module _ (e : t is "SURF" ≡ true) {n : ℕ} {c : Cursor} (w : TextAt s 8 (Ok (n, c))) where
     pub put_surface : {r : Record} {records' : List ℕ} → RecordAt kind s r
         → records' ≡ with_record (take (8 + n - 8) (drop 8 s)) (surface_of r) (pieces lengths bytes) records → SurfacesPut kind t s lengths bytes records records'
     unfolding added ◌and_then◌

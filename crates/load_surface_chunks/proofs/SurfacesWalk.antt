@@ -7,7 +7,7 @@ use mathlib.Core.Bool.{Bool, true, false}
 use native.Mathlib.Omega.{arith}
 use lib.ListN.{length, take, drop, length-append, length-take, length-drop}
 use Rattle.format.specs.declared.Kind.{Kind}
-use Rattle.format.specs.Bytes.{all, joined, same}
+use Rattle.format.specs.Bytes.{joined, same}
 use Rattle.format.specs.Items.{fine}
 use Rattle.format.specs.Mesh.{Name, Surface, surface_words, record_size}
 use Rattle.format.specs.Surfaces.{record_of}

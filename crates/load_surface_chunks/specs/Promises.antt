@@ -1,5 +1,6 @@
 -- SURFs stored at the listed names that are equal to theirs.
-use Rattle.std.specs.Prelude.{ℕ, ◌*◌, ◌<◌, ◌≤◌, ◌≡◌, length, take, drop, if◌then◌else◌}
+use Rattle.std.specs.Prelude.{ℕ, ◌*◌, ◌≤◌, ◌≡◌, Option, Some, None, length, take, drop, if◌then◌else◌}
+use Rattle.std.specs.Borrow.{Bor}
 use mathlib.Core.List.{List, [], ◌∷◌, ◌++◌, map, foldl}
 use Rattle.format.specs.declared.Kind.{Kind}
 use Rattle.format.specs.Bytes.{sum, joined, same}
@@ -10,7 +11,9 @@ use Rattle.format.specs.Bodies.{Part, SurfaceChunk}
 use Rattle.format.specs.Rules.{Before, judge, surfaces_of}
 use Rattle.format.specs.Written.{pieces}
 use Rattle.format.specs.Promises.{file_parts}
-use Rattle.name_index.specs.Index.{names_of, Index, Different}
+use Rattle.name_index.specs.declared.NameIndex.{NameIndex}
+use Rattle.name_index.specs.Index.{Different}
+use Rattle.name_index.specs.NameIndex.{IsIndex, names_in}
 
 -- ---- the records, one for each listed name
 
@@ -28,11 +31,15 @@ pub record ListedRoom (lengths bytes records : List ℕ) : Type 0 where
   pub inside : sum lengths ≤ length bytes
   pub fits : length lengths * record_size ≤ length records
 
--- where `heads` is not empty, it belongs to an index of the listed names, and these are all different
-pub record MayBeIndexed (multiplier : ℕ) (lengths bytes places heads links : List ℕ) : Type 0 where
-  pub index : 0 < length heads → Index multiplier bytes 0 places heads links
-  pub are : 0 < length heads → names_of bytes 0 places ≡ pieces lengths bytes
-  pub different : 0 < length heads → Different (pieces lengths bytes)
+-- an index of the listed names, which are all different
+pub record Indexed (lengths bytes : List ℕ) (x : NameIndex) : Type 0 where
+  pub index : IsIndex x
+  pub are : names_in x ≡ pieces lengths bytes
+  pub different : Different (pieces lengths bytes)
+
+abbrev pub MayBeIndexed : (lengths bytes : List ℕ) → Option (Bor NameIndex) → Type 0
+MayBeIndexed lengths bytes (Some x) = Indexed lengths bytes x.now
+MayBeIndexed lengths bytes None = Unit
 
 -- the chunk was judged fine
 pub record ChunkSound (kind : Kind) (tag : ℕ) (s : List ℕ) : Type 0 where

@@ -1,3 +1,1 @@
-mod RecordAtNames
-mod SurfaceChunk
-mod SurfacesWalk
+mod FileRecords

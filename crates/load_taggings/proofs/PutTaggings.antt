@@ -8,7 +8,8 @@ use lib.ListN.{length, take, drop, set, length-append, length-take, length-set}
 use lib.Seq.{set-append_left}
 use lib.Dec.{ltb}
 use borrow.Author.Tests.{ltb-true}
-use Rattle.format.specs.declared.Fault.TheVariants.{ItemCut, PolygonNumber, SurfaceNumber}
+use Rattle.format.specs.declared.Fault.{Fault}
+use Rattle.format.specs.declared.Fault.TheVariants.{PolygonNumber, SurfaceNumber}
 use Rattle.format.specs.Bytes.{tag_number, joined, number}
 use Rattle.format.specs.Items.{Verdict, fine, fault, ◌and_then◌, Reader, ◌>>=◌, ◌or◌unless◌, whole, many, u2, u4, vx}
 use Rattle.format.specs.Chunks.{unjudged}
@@ -160,8 +161,8 @@ module _ {s : List ℕ} {from polygons names : ℕ} {table₀ : List ℕ} {i ind
 -- ---- the type of a body
 
 module _ (polygons names : ℕ) {s : List ℕ} where
-  pub type_never_cut : {table : List ℕ} {i : ℕ} → TagsRoom (whole 0 (tagging_body polygons names) 8 (drop 8 s)) polygons table i
-      → ReadsAt u4 (taking 4) s 8 (fault ItemCut 8) → ⊥
+  pub type_never_cut : {table : List ℕ} {i : ℕ} {why : Fault} {p : ℕ} → TagsRoom (whole 0 (tagging_body polygons names) 8 (drop 8 s)) polygons table i
+      → ReadsAt u4 (taking 4) s 8 (fault why p) → ⊥
   unfolding tagging_body
   type_never_cut r w =
       let u = sound_whole (tagging_body polygons names) 0 8 (drop 8 s) r.sound in

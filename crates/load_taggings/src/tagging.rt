@@ -7,7 +7,7 @@ ghost use Rattle.load_taggings.specs.Promises.{TagsRoom, TagsPut, PairsPut};
 
 use format::tags::{PART, SURF};
 use format::{PART_WORD, POLYGON_WORDS, SURFACE_WORD};
-use wire::cursor::{Cursor, Item, Number};
+use wire::cursor::Cursor;
 
 // The pairs from a place up to the body's end, into one word of the entries. A polygon's surface number and its part name count the names from 1, where a tag
 // counts them from 0. A later tag of the same polygon is put over an earlier one, so that the last stands. The pairs were judged to be fine.
@@ -24,12 +24,13 @@ fn put_pairs(
     ensures { PairsPut (whole 0 (many (pair polygons names)) from.at (drop from.at s.now)) polygons index table.old i table.new }
 {
     let mut at = from.at;
+    // A pair's length is its own, so the place is moved on by hand.
     while at < s.len() {
         let c = Cursor { at };
-        let Item::Got(p, after) = c.vx(s) else {
+        let Ok((p, after)) = c.vx(s) else {
             return;
         };
-        let Number::Got(tag, next) = after.u2(s) else {
+        let Ok((tag, next)) = after.u2(s) else {
             return;
         };
         table[i + (p as usize * POLYGON_WORDS + index)] = tag + 1;
@@ -43,7 +44,7 @@ pub fn put_taggings(s: &[u8], polygons: usize, names: usize, table: &mut [u32], 
     ensures { TagsPut (whole 0 (tagging_body polygons names) 8 (drop 8 s.now)) polygons table.old i table.new }
 {
     let start = Cursor { at: 8 };
-    let Number::Got(t, first) = start.u4(s) else {
+    let Ok((t, first)) = start.u4(s) else {
         return;
     };
     if t == SURF {

@@ -1,8 +1,8 @@
 -- Where the sub-chunks were judged fine, each gives the value that its tag says, for a BLOK gives none; so the last values are taken in one after another.
-use Rattle.std.specs.Prelude.{if◌then◌else◌}
+use Rattle.std.specs.Prelude.{if◌then◌else◌, Option, Some, None, Ok, Err}
 use mathlib.Core.Path.{◌≡◌, refl, sym, ap, ◌∙◌}
 use mathlib.Core.Bool.{Bool, true, false}
-use mathlib.Core.List.{List, []}
+use mathlib.Core.List.{List, [], ◌++◌}
 use Prim.Native.Nat.{ℕ, ◌+◌, ◌≤◌, ◌<◌}
 use native.Mathlib.Omega.{arith}
 use lib.ListN.{length, take, drop}
@@ -24,14 +24,12 @@ use Rattle.format.proofs.Verdicts.{same_fine, then_fine, chosen, passed}
 use Rattle.format.proofs.Entries.{ManyLoop, many_begin, many_turn, many_end}
 use Rattle.format.proofs.Inversion.{many_sound}
 use Rattle.wire.specs.declared.Refusal.{Refusal}
-use Rattle.wire.specs.declared.cursor.Cursor.{Cursor}
 use Rattle.headers.specs.declared.Header.{Header}
 use Rattle.headers.specs.Promises.{HeaderAt}
 use Rattle.headers.proofs.Headers.{sub_bad, sub_fine, sub_stop}
 use Rattle.surface_levels.specs.declared.value.Value.{Value}
-use Rattle.surface_levels.specs.declared.value.ValueResult.{ValueResult}
 use Rattle.load_values.specs.declared.last_values.LastValues.{LastValues}
-use Rattle.surface_levels.specs.Promises.{ValueResultAt}
+use Rattle.surface_levels.specs.Promises.{words_given, ValueResultAt}
 use Rattle.load_values.specs.LastValues.{none_taken, taken, taken_of, LastValuesHaveBits, NoneMet, TakenIn, LastAt}
 use Rattle.load_values.proofs.TakenValues.{taken_first, taken_none}
 
@@ -101,21 +99,30 @@ module _ {kind : Kind} {s : List ℕ} {from : ℕ} where
       never : {why : Fault} {p : ℕ} → Says (sub (value_of kind)) itself s at (fault why p) → ⊥
       never w = impossible (cc (sym alone.2 ∙ stopped w))
 
-      pub never_bad : HeaderAt 2 s at Header.Bad → ⊥
+      pub never_bad : {f : Refusal} → HeaderAt 2 s at (Err f) → ⊥
       never_bad w = never (sub_bad (value_of kind) w)
 
-      module _ {tag size : ℕ} {next : Cursor} (w : HeaderAt 2 s at (Header.Got tag size next)) where
-        pub never_stop : {f : Refusal} → ValueResultAt (value_of kind tag) at (take size s) (ValueResult.Stop f) → ⊥
+      module _ {head : Header} (w : HeaderAt 2 s at (Ok head)) where
+        pub never_stop : {f : Refusal} → ValueResultAt (value_of kind head.tag) at (take head.end s) (Err f) → ⊥
         never_stop r = never (sub_stop (value_of kind) w r.judged)
 
-        pub turn : {value : Value} {later : LastValues} → ValueResultAt (value_of kind tag) at (take size s) (ValueResult.Got value)
-            → TakenIn value v later → LastUpTo kind s from next.at later
+        step : {given : Option Value} {later : LastValues} → ValueResultAt (value_of kind head.tag) at (take head.end s) (Ok given)
+            → ((vs : List Words) → taken (words_given given ++ vs) (taken_of v) ≡ taken vs (taken_of later)) → LastValuesHaveBits later
+            → LastUpTo kind s from head.next.at later
         unfolding joined
-        turn {value} r i =
+        step r told has_bits =
             let same = alone.1 ∙ sym alone.2 ∙ exactly (sub_fine (value_of kind) w r.judged) in
             record {
-              rest = many_turn t.rest some (exact (sym same)) (omega (arith, w.reads.moves))
-                  (λ x xs e. rw (e, i.is) (taken_first value (joined xs) (taken_of v)));
+              rest = many_turn t.rest some (exact (sym same)) (omega (arith, w.inside))
+                  (λ x xs e. rw e (told (joined xs)));
               sound = t.sound;
-              has_bits = i.has_bits;
+              has_bits = has_bits;
             }
+
+        pub turn : {value : Value} {later : LastValues} → ValueResultAt (value_of kind head.tag) at (take head.end s) (Ok (Some value))
+            → TakenIn value v later → LastUpTo kind s from head.next.at later
+        turn {value} r i = step r (λ vs. rw i.is (taken_first value vs (taken_of v))) i.has_bits
+
+        -- a sub-chunk that gives no value
+        pub idle : ValueResultAt (value_of kind head.tag) at (take head.end s) (Ok None) → LastUpTo kind s from head.next.at v
+        idle r = step r (λ vs. refl) t.has_bits

@@ -1,4 +1,5 @@
 -- A value that is taken in changes what its tag names and nothing else.
+use Rattle.std.specs.Prelude.{None}
 use mathlib.Core.Path.{◌≡◌, refl}
 use mathlib.Core.List.{List, [], ◌++◌}
 use lib.Ieee.{Float, of_bits, to_bits, is_nan}
@@ -8,15 +9,16 @@ use Rattle.surface_levels.specs.declared.shading.Shading.{Shading}
 use Rattle.surface_levels.specs.declared.value.Value.{Value}
 use Rattle.surface_levels.specs.Levels.{HasBits}
 use Rattle.surface_levels.specs.Promises.{by_shading, words_of, ValueHasBits}
-use Rattle.load_values.specs.declared.last_values.Last.{Last}
 use Rattle.load_values.specs.declared.last_values.Levels.{Levels}
 use Rattle.load_values.specs.declared.last_values.LastValues.{LastValues}
-use Rattle.load_values.specs.LastValues.{Taken, taken, missing_colour_float, no_levels, with_level, taken_of, LastLevelsHaveBits, LastValuesHaveBits, NoneMet, TakenIn}
+use Rattle.load_values.specs.LastValues.{Taken, taken, missing_colour_float, no_levels, with_level, taken_of, LevelHasBits, LastLevelsHaveBits, LastValuesHaveBits, NoneMet, TakenIn}
 
 -- ---- the start
 
+pub no_levels_is : {l : Levels} → (l.luminosity ≡ None) × ((l.diffuse ≡ None) × ((l.specular ≡ None) × ((l.reflection ≡ None) × (l.transparency ≡ None)))) → l ≡ no_levels
+no_levels_is e = λ i. record { luminosity = e.0 i; diffuse = e.1.0 i; specular = e.1.1.0 i; reflection = e.1.1.1.0 i; transparency = e.1.1.1.1 i }
+
 pub none_have_bits : LastLevelsHaveBits no_levels
-unfolding of_bits is_nan
 none_have_bits = record { luminosity = tt; diffuse = tt; specular = tt; reflection = tt; transparency = tt }
 
 -- as the code writes it
@@ -45,16 +47,13 @@ named P Shading.Specular l d s r t = s
 named P Shading.Reflection l d s r t = r
 named P Shading.Transparency l d s r t = t
 
-abbrev LastHasBits : Last → Type 0
-LastHasBits l = HasBits l.level
-
 with_has_bits : (l : Levels) (w : Shading) (x : Float) → LastLevelsHaveBits l → HasBits x → LastLevelsHaveBits (with_level l w x)
 with_has_bits l w x h b = record {
-  luminosity = named LastHasBits w b h.luminosity h.luminosity h.luminosity h.luminosity;
-  diffuse = named LastHasBits w h.diffuse b h.diffuse h.diffuse h.diffuse;
-  specular = named LastHasBits w h.specular h.specular b h.specular h.specular;
-  reflection = named LastHasBits w h.reflection h.reflection h.reflection b h.reflection;
-  transparency = named LastHasBits w h.transparency h.transparency h.transparency h.transparency b;
+  luminosity = named LevelHasBits w b h.luminosity h.luminosity h.luminosity h.luminosity;
+  diffuse = named LevelHasBits w h.diffuse b h.diffuse h.diffuse h.diffuse;
+  specular = named LevelHasBits w h.specular h.specular b h.specular h.specular;
+  reflection = named LevelHasBits w h.reflection h.reflection h.reflection b h.reflection;
+  transparency = named LevelHasBits w h.transparency h.transparency h.transparency h.transparency b;
 }
 
 -- ---- one value more
@@ -68,7 +67,6 @@ after (Value.Long w x) v =
     record { red = v.red; green = v.green; blue = v.blue; short = v.short; long = with_level v.long w x; flags = v.flags; sides = v.sides }
 after (Value.Flags n) v = record { red = v.red; green = v.green; blue = v.blue; short = v.short; long = v.long; flags = n; sides = v.sides }
 after (Value.Sides n) v = record { red = v.red; green = v.green; blue = v.blue; short = v.short; long = v.long; flags = v.flags; sides = n }
-after Value.Nothing v = v
 
 after_is : (value : Value) (v : LastValues) → taken_of (after value v) ≡ taken (words_of value) (taken_of v)
 unfolding taken last_of number
@@ -85,7 +83,6 @@ after_is (Value.Long Shading.Reflection x) v = refl
 after_is (Value.Long Shading.Transparency x) v = refl
 after_is (Value.Flags n) v = refl
 after_is (Value.Sides n) v = refl
-after_is Value.Nothing v = refl
 
 after_has_bits : (value : Value) (v : LastValues) → LastValuesHaveBits v → ValueHasBits value → LastValuesHaveBits (after value v)
 after_has_bits (Value.Colour r g b) v h x = record { red = x.0; green = x.1; blue = x.2; short = h.short; long = h.long }
@@ -95,7 +92,6 @@ after_has_bits (Value.Long w l) v h x =
     record { red = h.red; green = h.green; blue = h.blue; short = h.short; long = with_has_bits v.long w l h.long x }
 after_has_bits (Value.Flags n) v h x = record { red = h.red; green = h.green; blue = h.blue; short = h.short; long = h.long }
 after_has_bits (Value.Sides n) v h x = record { red = h.red; green = h.green; blue = h.blue; short = h.short; long = h.long }
-after_has_bits Value.Nothing v h x = h
 
 pub taken_in : {value : Value} {v later : LastValues} → LastValuesHaveBits v × ValueHasBits value → later ≡ after value v → TakenIn value v later
 taken_in {value} {v} h e = rw e record { is = after_is value v; has_bits = after_has_bits value v h.0 h.1 }
@@ -108,7 +104,6 @@ taken_first (Value.Level w x) vs t = refl
 taken_first (Value.Long w x) vs t = refl
 taken_first (Value.Flags n) vs t = refl
 taken_first (Value.Sides n) vs t = refl
-taken_first Value.Nothing vs t = refl
 
 pub taken_none : (t : Taken) → taken [] t ≡ t
 unfolding taken last_of

@@ -1,5 +1,5 @@
 -- The last value of each tag in a SURF: as words of the specification, in code, and what the answers on them say.
-use Rattle.std.specs.Prelude.{ℕ, ◌≡◌, List, true, false, Float, if◌then◌else◌}
+use Rattle.std.specs.Prelude.{ℕ, ◌≡◌, List, Float, Option, Some, None}
 use Rattle.std.specs.Float.{binary32}
 use Rattle.std.specs.Float.Ieee.{of_bits}
 use Rattle.format.specs.declared.Kind.{Kind}
@@ -12,7 +12,6 @@ use Rattle.surface_levels.specs.declared.shading.Shading.{Shading}
 use Rattle.surface_levels.specs.declared.value.Value.{Value}
 use Rattle.surface_levels.specs.Levels.{HasBits, bits}
 use Rattle.surface_levels.specs.Promises.{by_shading, words_of}
-use Rattle.load_values.specs.declared.last_values.Last.{Last}
 use Rattle.load_values.specs.declared.last_values.Levels.{Levels}
 use Rattle.load_values.specs.declared.last_values.LastValues.{LastValues}
 
@@ -71,14 +70,11 @@ taken vs t = record {
 abbrev pub missing_colour_float : Float
 missing_colour_float = of_bits binary32 missing_colour
 
-abbrev pub no_last : Last
-no_last = record { met = false; level = of_bits binary32 0 }
-
 abbrev pub no_levels : Levels
-no_levels = record { luminosity = no_last; diffuse = no_last; specular = no_last; reflection = no_last; transparency = no_last }
+no_levels = record { luminosity = None; diffuse = None; specular = None; reflection = None; transparency = None }
 
 -- the levels with the one that is named put in its place
-abbrev pub with_last : Levels → Shading → Last → Levels
+abbrev pub with_last : Levels → Shading → Option Float → Levels
 with_last l w x = record {
   luminosity = by_shading x l.luminosity l.luminosity l.luminosity l.luminosity w;
   diffuse = by_shading l.diffuse x l.diffuse l.diffuse l.diffuse w;
@@ -88,10 +84,11 @@ with_last l w x = record {
 }
 
 abbrev pub with_level : Levels → Shading → Float → Levels
-with_level l w x = with_last l w (record { met = true; level = x })
+with_level l w x = with_last l w (Some x)
 
-abbrev pub word_of : Last → ℕ → ℕ
-word_of l d = if l.met then bits l.level else d
+abbrev pub word_of : Option Float → ℕ → ℕ
+word_of (Some x) d = bits x
+word_of None d = d
 
 abbrev pub level_words : Levels → LevelWords
 level_words l = record {
@@ -113,13 +110,17 @@ taken_of v = record {
   sides = v.sides;
 }
 
--- each level has bits of its own
+-- each level that was met has bits of its own
+abbrev pub LevelHasBits : Option Float → Type 0
+LevelHasBits (Some x) = HasBits x
+LevelHasBits None = Unit
+
 pub record LastLevelsHaveBits (l : Levels) : Type 0 where
-  pub luminosity : HasBits l.luminosity.level
-  pub diffuse : HasBits l.diffuse.level
-  pub specular : HasBits l.specular.level
-  pub reflection : HasBits l.reflection.level
-  pub transparency : HasBits l.transparency.level
+  pub luminosity : LevelHasBits l.luminosity
+  pub diffuse : LevelHasBits l.diffuse
+  pub specular : LevelHasBits l.specular
+  pub reflection : LevelHasBits l.reflection
+  pub transparency : LevelHasBits l.transparency
 
 pub record LastValuesHaveBits (v : LastValues) : Type 0 where
   pub red : HasBits v.red

@@ -4,33 +4,28 @@ ghost use Rattle.format.specs.declared.Container.TheVariants.{Surf};
 ghost use Rattle.format.specs.Surfaces.{nested, surface_depth};
 ghost use Rattle.format.specs.Promises.{Succeeds};
 ghost use Rattle.surface_levels.specs.Promises.{ValueHasBits};
-ghost use Rattle.load_values.specs.LastValues.{no_levels, with_level, LastValuesHaveBits, NoneMet, TakenIn, LastAt};
+ghost use Rattle.load_values.specs.LastValues.{with_level, LastValuesHaveBits, NoneMet, TakenIn, LastAt};
 
 use format::{Kind, MISSING_COLOUR};
 use headers::{Header, sub_at};
 use surface_levels::shading::Shading;
-use surface_levels::value::{Value, ValueResult};
+use surface_levels::sub_chunk::SubChunk;
+use surface_levels::value::Value;
 use surface_values::value::value_of;
 use wire::cursor::Cursor;
 
-// A level's last value, where one was met.
-#[derive(Clone, Copy)]
-pub struct Last {
-    pub met: bool,
-    pub level: f32,
-}
-
-#[derive(Clone, Copy)]
+// The last value of each level, where one was met.
+#[derive(Clone, Copy, Debug, Default, PartialEq)]
 pub struct Levels {
-    pub luminosity: Last,
-    pub diffuse: Last,
-    pub specular: Last,
-    pub reflection: Last,
-    pub transparency: Last,
+    pub luminosity: Option<f32>,
+    pub diffuse: Option<f32>,
+    pub specular: Option<f32>,
+    pub reflection: Option<f32>,
+    pub transparency: Option<f32>,
 }
 
 // The last value of each tag: `long` are LWOB's float forms. A missing colour, FLAG or SIDE is what it stands for.
-#[derive(Clone, Copy)]
+#[derive(Clone, Copy, Debug, PartialEq)]
 pub struct LastValues {
     pub red: f32,
     pub green: f32,
@@ -42,28 +37,11 @@ pub struct LastValues {
 }
 
 impl Levels {
-    // No level was met.
-    pub fn none() -> Self
-        ensures { result ≡ no_levels }
-    {
-        let none = Last {
-            met: false,
-            level: 0.0,
-        };
-        Self {
-            luminosity: none,
-            diffuse: none,
-            specular: none,
-            reflection: none,
-            transparency: none,
-        }
-    }
-
     // The last value of one level.
     fn with(mut self, which: Shading, level: f32) -> Self
         ensures { result ≡ with_level self which level }
     {
-        let last = Last { met: true, level };
+        let last = Some(level);
         match which {
             Shading::Luminosity => self.luminosity = last,
             Shading::Diffuse => self.diffuse = last,
@@ -84,8 +62,8 @@ impl LastValues {
             red: MISSING_COLOUR,
             green: MISSING_COLOUR,
             blue: MISSING_COLOUR,
-            short: Levels::none(),
-            long: Levels::none(),
+            short: Levels::default(),
+            long: Levels::default(),
             flags: 0,
             sides: 1,
         }
@@ -112,7 +90,6 @@ impl LastValues {
             }
             Value::Flags(n) => self.flags = n,
             Value::Sides(n) => self.sides = n,
-            Value::Nothing => (),
         }
         self
     }
@@ -125,14 +102,21 @@ pub fn last_values(s: &[u8], from: Cursor, kind: Kind) -> LastValues
 {
     let mut at = from.at;
     let mut last = LastValues::none();
+    // A sub-chunk's length is its own, so the place is moved on by hand.
     while at < s.len() {
-        let Header::Got { tag, end, next } = sub_at(s, Cursor { at }) else {
+        let Ok(Header { tag, end, next }) = sub_at(s, Cursor { at }) else {
             return last;
         };
-        let ValueResult::Got(value) = value_of(&s[..end], at, tag, kind) else {
+        let sub = SubChunk {
+            bytes: &s[..end],
+            head: at,
+        };
+        let Ok(given) = value_of(sub, tag, kind) else {
             return last;
         };
-        last = last.with(value);
+        if let Some(value) = given {
+            last = last.with(value);
+        }
         at = next.at;
     }
     last

@@ -1,3 +1,4 @@
+pub mod Unwrapped
 pub mod PutVertices
 pub mod VerticesAfterCount
 pub mod PutLwobEntry

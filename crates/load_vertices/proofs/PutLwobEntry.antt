@@ -59,7 +59,7 @@ module _ (kind : ℕ) where
 
         pub lwob_entry_put : {x : SignedSurface} {last : Cursor} {words' : List ℕ} → Keeps i2 signed_surface_of (taking 2) s end (got s x last.at)
             → Put words e.polygons (kind ∷ n ∷ x.number ∷ 0 ∷ []) words'
-            → LwobEntryPut kind l e s at words words' vertices vertices' (record { next = last; vertices = n; sign = x })
+            → LwobEntryPut kind l e s at words words' vertices vertices' (record { next = last; vertices = n }, x)
         unfolding lwob_entry
         lwob_entry_put {x} {last} v p =
             let many = vertices_counted q in

@@ -6,10 +6,11 @@ use Rattle.format.specs.Mesh.{polygon_of, Polygon, polygon_words, polygon_size}
 use Rattle.format.specs.Bodies.{vertex, lwob_vertices}
 use Rattle.format.specs.Rules.{from}
 use Rattle.format.specs.Promises.{got, itself, taking, Says, Keeps, ReadsAt, Succeeds, Put}
+use Rattle.wire.specs.declared.cursor.SignedSurface.{SignedSurface}
 use Rattle.wire.specs.Promises.{signed_surface_of}
 use Rattle.load_vertices.specs.declared.Lists.{Lists}
 use Rattle.load_vertices.specs.declared.Ends.{Ends}
-use Rattle.load_vertices.specs.declared.lwob_entry.LwobEntryStored.{LwobEntryStored}
+use Rattle.load_vertices.specs.declared.PolygonStored.{PolygonStored}
 
 -- ---- vertices
 
@@ -56,9 +57,9 @@ lwob_entry point_count kind = do
 
 -- It is put, with its vertices up to the place `end`, and its surface number after them.
 pub record LwobEntryPut (kind : ℕ) (l : Lists) (e : Ends) (s : List ℕ) (at : ℕ) (words words' vertices vertices' : List ℕ)
-    (answer : LwobEntryStored) : Type 0 where
-  pub put : EntryPut (lwob_entry l.points kind) itself l e s at words words' vertices vertices' answer.next.at answer.vertices
+    (answer : PolygonStored × SignedSurface) : Type 0 where
+  pub put : EntryPut (lwob_entry l.points kind) itself l e s at words words' vertices vertices' answer.0.next.at answer.0.vertices
   pub end : ℕ
   pub run : Says (lwob_vertices l.points) itself s at (got s put.entry.vertices end)
-  pub sign : Keeps i2 signed_surface_of (taking 2) s end (got s answer.sign answer.next.at)
-  pub made : put.entry ≡ polygon_of kind answer.sign.number 0 put.entry.vertices
+  pub sign : Keeps i2 signed_surface_of (taking 2) s end (got s answer.1 answer.0.next.at)
+  pub made : put.entry ≡ polygon_of kind answer.1.number 0 put.entry.vertices

@@ -8,12 +8,15 @@ ghost use Rattle.format.specs.Answer.{Reads};
 ghost use Rattle.format.specs.Written.{Writes};
 ghost use Rattle.lwo.specs.Exports.{answer_as, written_as, version};
 
+use mesh::lent::Tables;
+use read_answer::ReadError;
 use reader::read;
-use writer::write;
+use validate::counts::Totals;
+use writer::{WriteError, write};
 
 // The reader's answer: a refusal's number (0 accepted) and its place, the five needs, the skipped chunks and the details.
 #[repr(C)]
-#[derive(Clone, Copy)]
+#[derive(Clone, Copy, Debug, PartialEq, Eq)]
 pub struct LwoAnswer {
     pub number: u64,
     pub place: u64,
@@ -28,11 +31,62 @@ pub struct LwoAnswer {
 
 // The writer's answer: a number, the place 0, and a length: bytes written on 0, bytes needed on 16, else 0.
 #[repr(C)]
-#[derive(Clone, Copy)]
+#[derive(Clone, Copy, Debug, PartialEq, Eq)]
 pub struct LwoWritten {
     pub number: u64,
     pub place: u64,
     pub length: u64,
+}
+
+// A refusal's number and place, or 0 and 0. Only a file that has a mesh has counts, also where there is no room for it.
+impl From<Result<Totals, ReadError>> for LwoAnswer {
+    ghost use Rattle.std.specs.Prelude.{◌≡◌};
+    ghost use Rattle.lwo.specs.Exports.{answer_as};
+    ghost use Rattle.read_answer.specs.Reads.{answer_as as read_as};
+
+    ghost from_gives = { λ answer a. answer_as a ≡ read_as answer };
+
+    fn from(answer: Result<Totals, ReadError>) -> LwoAnswer {
+        let (number, place, t) = match answer {
+            Ok(t) => (0, 0, t),
+            Err(ReadError::NoRoom(t)) => (16, 0, t),
+            Err(ReadError::Refused(f)) => (u32::from(f.why), f.at, Totals::default()),
+        };
+        LwoAnswer {
+            number: number as u64,
+            place: place as u64,
+            points: t.points as u64,
+            polygons: t.polygons as u64,
+            vertices: t.vertices as u64,
+            names: t.names as u64,
+            name_bytes: t.name_bytes as u64,
+            skipped: t.skipped as u64,
+            details: t.details as u64,
+        }
+    }
+}
+
+// A refusal's number, or 0. The place is always 0, since no byte is at fault.
+impl From<Result<usize, WriteError>> for LwoWritten {
+    ghost use Rattle.std.specs.Prelude.{◌≡◌};
+    ghost use Rattle.lwo.specs.Exports.{written_as};
+    ghost use Rattle.writer.specs.Writes.{answer_as as write_as};
+
+    ghost from_gives = { λ answer w. written_as w ≡ write_as answer };
+
+    fn from(answer: Result<usize, WriteError>) -> LwoWritten {
+        let (number, length) = match answer {
+            Ok(length) => (0, length),
+            Err(WriteError::NotAMesh) => (17, 0),
+            Err(WriteError::OutTooLong) => (18, 0),
+            Err(WriteError::NoRoom(needed)) => (16, needed),
+        };
+        LwoWritten {
+            number,
+            place: 0,
+            length: length as u64,
+        }
+    }
 }
 
 // The library's version, its three numbers in one: the last two have eight bits each, and the first what is above them. The header has the same.
@@ -43,6 +97,7 @@ pub fn lwo_version() -> u32
 }
 
 // `read`, with its answer in C's types.
+// The tables are lent one by one, as C lends them.
 pub fn lwo_read(
     file: &[u8],
     points: &mut [u32],
@@ -54,21 +109,11 @@ pub fn lwo_read(
 ) -> LwoAnswer
     ensures { Reads file.now (lent points.old polygons.old vertices.old names.old name_bytes.old records.old) (answer_as result) (lent points.new polygons.new vertices.new names.new name_bytes.new records.new) }
 {
-    let a = read(file, points, polygons, vertices, names, name_bytes, records);
-    LwoAnswer {
-        number: a.number as u64,
-        place: a.place as u64,
-        points: a.points as u64,
-        polygons: a.polygons as u64,
-        vertices: a.vertices as u64,
-        names: a.names as u64,
-        name_bytes: a.name_bytes as u64,
-        skipped: a.skipped as u64,
-        details: a.details as u64,
-    }
+    LwoAnswer::from(read(file, points, polygons, vertices, names, name_bytes, records))
 }
 
 // `write`, with its answer in C's types.
+// The tables are lent one by one, as C lends them.
 pub fn lwo_write(
     points: &[u32],
     polygons: &[u32],
@@ -80,10 +125,13 @@ pub fn lwo_write(
 ) -> LwoWritten
     ensures { Writes (lent points.now polygons.now vertices.now names.now name_bytes.now records.now) out.old (written_as result) out.new }
 {
-    let w = write(points, polygons, vertices, names, name_bytes, records, out);
-    LwoWritten {
-        number: w.number as u64,
-        place: w.place as u64,
-        length: w.length as u64,
-    }
+    let tables = Tables {
+        points,
+        polygons,
+        vertices,
+        names,
+        name_bytes,
+        records,
+    };
+    LwoWritten::from(write(&tables, out))
 }

@@ -6,7 +6,8 @@ use Prim.Native.Nat.{ℕ, ◌+◌, ◌-◌, ◌≤◌, ◌<◌}
 use native.Mathlib.Omega.{arith}
 use lib.ListN.{length}
 use borrow.Author.Tests.{ne_eqb}
-use Rattle.format.specs.declared.Fault.{Fault}
+use Rattle.std.specs.Prelude.{Ok, Err}
+use Rattle.wire.specs.declared.Refusal.{Refusal}
 use Rattle.format.specs.declared.Fault.TheVariants.{WrongLength, SurfaceValue}
 use Rattle.format.specs.Bytes.{number}
 use Rattle.format.specs.Items.{fault, u2, vx}
@@ -15,33 +16,31 @@ use Rattle.format.specs.Promises.{itself, Says, ReadsAt, taking, got}
 use Rattle.format.proofs.ReaderSteps.{given, good, bad, used_up, left_over, judged_on, judged_off}
 use Rattle.surface_levels.specs.declared.shading.Shading.{Shading}
 use Rattle.surface_levels.specs.declared.value.Value.{Value}
-use Rattle.surface_levels.specs.declared.value.ValueResult.{ValueResult}
-use Rattle.surface_levels.specs.Promises.{colour_tag, side_tag, short_tag, ValueHasBits, ValueResultAt, RestAt}
+use Rattle.surface_levels.specs.Promises.{colour_tag, side_tag, short_tag, ValueHasBits, ValueAt, RestAt}
 use Rattle.surface_levels.proofs.ValueBodies.{fitted, first_bad}
 use Rattle.lwo2_values.specs.Promises.{envelope_after}
 
 module _ {s : List ℕ} {head : ℕ} where
   module _ {n next : ℕ} (long : length s - (head + 6) ≡ 2) (r : ReadsAt u2 (taking 2) s (head + 6) (got s n next)) where
-    pub side_value : side_number n ≡ true → ValueResultAt (side side_tag) head s (ValueResult.Got (Value.Sides n))
+    pub side_value : side_number n ≡ true → ValueAt (side side_tag) head s (Ok (Value.Sides n))
     side_value e = record {
       judged = fitted 2 _ long (judged_on _ (good SurfaceValue side_number r.says e) (used_up (given refl) (omega (arith, r.moves))));
       has_bits = tt;
     }
 
-    pub no_side : side_number n ≡ false → ValueResultAt (side side_tag) head s (ValueResult.Stop (record { why = SurfaceValue; at = head + 6 }))
+    pub no_side : side_number n ≡ false → ValueAt (side side_tag) head s (Err (record { why = SurfaceValue; at = head + 6 }))
     no_side e = first_bad 2 _ long (bad SurfaceValue side_number r.says e)
 
   -- from the envelope on
   module _ {at : ℕ} (v : Value) where
-    pub envelope_cut : {why : Fault} {p : ℕ} → Says vx itself s at (fault why p)
-        → RestAt (envelope_after v) head s at (ValueResult.Stop (record { why = why; at = p }))
+    pub envelope_cut : {f : Refusal} → Says vx itself s at (fault f.why f.at) → RestAt (envelope_after v) head s at (Err f)
     envelope_cut w = record { judged = judged_off _ w; has_bits = tt }
 
     module _ {e next : ℕ} (w : Says vx itself s at (got s e next)) where
-      pub bytes_left : next < length s → RestAt (envelope_after v) head s at (ValueResult.Stop (record { why = WrongLength; at = head }))
+      pub bytes_left : next < length s → RestAt (envelope_after v) head s at (Err (record { why = WrongLength; at = head }))
       bytes_left l = record { judged = judged_on _ w (left_over (given refl) l); has_bits = tt }
 
-      pub envelope_last : length s ≤ next → ValueHasBits v → RestAt (envelope_after v) head s at (ValueResult.Got v)
+      pub envelope_last : length s ≤ next → ValueHasBits v → RestAt (envelope_after v) head s at (Ok v)
       envelope_last l h = record { judged = judged_on _ w (used_up (given refl) l); has_bits = h }
 
 -- ---- by tag

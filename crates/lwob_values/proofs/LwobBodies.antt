@@ -8,6 +8,7 @@ use lib.Ieee.{Float}
 use lib.ListN.{length, get_or, take, drop, length-drop}
 use lib.Seq.{drop-drop}
 use borrow.Author.Tests.{ne_eqb, le-leb}
+use Rattle.std.specs.Prelude.{Ok}
 use Rattle.format.specs.Bytes.{number, over255}
 use Rattle.format.specs.Items.{item, u2, i2}
 use Rattle.format.specs.Surfaces.{value, unlisted, byte_colour, short_level, long_level, flags, lwob_value}
@@ -15,12 +16,10 @@ use Rattle.format.specs.Promises.{itself, Says, ReadsAt, taking, got}
 use Rattle.format.proofs.ReaderSteps.{exact, given, used_up, judged_on}
 use Rattle.wire.specs.declared.cursor.Cursor.{Cursor}
 use Rattle.format.proofs.Indexed.{four_at}
-use Rattle.surface_levels.specs.declared.level.FloatRead.{FloatRead}
 use Rattle.surface_levels.specs.declared.shading.Shading.{Shading}
 use Rattle.surface_levels.specs.declared.value.Value.{Value}
-use Rattle.surface_levels.specs.declared.value.ValueResult.{ValueResult}
 use Rattle.surface_levels.specs.Levels.{bits, LevelOf, ColourOf}
-use Rattle.surface_levels.specs.Promises.{colour_tag, flag_tag, short_tag, long_tag, FloatAt, ValueResultAt}
+use Rattle.surface_levels.specs.Promises.{colour_tag, flag_tag, short_tag, long_tag, FloatAt, ValueAt}
 use Rattle.surface_levels.proofs.ValueBodies.{fitted}
 
 bytes_there : {s : List ℕ} (head : ℕ) → head + 10 ≤ length s → Says (item 4) itself s (head + 6) (got s (take 4 (drop (head + 6) s)) (head + 10))
@@ -33,7 +32,7 @@ bytes_there {s} head h =
 module _ {s : List ℕ} {head : ℕ} where
   pub colour_value : {r g b : Float} → length s - (head + 6) ≡ 4
       → ColourOf (get_or s (head + 6) 0) r → ColourOf (get_or s (head + 6 + 1) 0) g → ColourOf (get_or s (head + 6 + 2) 0) b
-      → ValueResultAt (byte_colour colour_tag) head s (ValueResult.Got (Value.Colour r g b))
+      → ValueAt (byte_colour colour_tag) head s (Ok (Value.Colour r g b))
   colour_value {r} {g} {b} n x y z =
       let long : head + 10 ≤ length s = omega arith in
       let words : map over255 (take 3 (take 4 (drop (head + 6) s))) ≡ bits r ∷ bits g ∷ bits b ∷ [] =
@@ -44,20 +43,20 @@ module _ {s : List ℕ} {head : ℕ} where
       }
 
   pub short_value : {w : Shading} {z : ℤ} {x : Float} {next : ℕ} → length s - (head + 6) ≡ 2 → ReadsAt i2 (taking 2) s (head + 6) (got s z next) → LevelOf z x
-      → ValueResultAt (short_level (short_tag w)) head s (ValueResult.Got (Value.Level w x))
+      → ValueAt (short_level (short_tag w)) head s (Ok (Value.Level w x))
   short_value {w} n r l =
       let same = ap (λ b. value (short_tag w) (b ∷ [])) (sym l.is) in
       record { judged = fitted 2 _ n (judged_on _ r.says (used_up (given same) (omega (arith, r.moves)))); has_bits = l.has_bits }
 
-  pub long_value : {w : Shading} {x : Float} {c : Cursor} → length s - (head + 6) ≡ 4 → FloatAt s (head + 6) (FloatRead.Got x c)
-      → ValueResultAt (long_level (long_tag w)) head s (ValueResult.Got (Value.Long w x))
+  pub long_value : {w : Shading} {x : Float} {c : Cursor} → length s - (head + 6) ≡ 4 → FloatAt s (head + 6) (Ok (x, c))
+      → ValueAt (long_level (long_tag w)) head s (Ok (Value.Long w x))
   long_value n r = record {
     judged = fitted 4 _ n (judged_on _ r.reads.says (used_up (given refl) (omega (arith, r.reads.moves))));
     has_bits = r.has_bits;
   }
 
   pub flag_value : {n next : ℕ} → length s - (head + 6) ≡ 2 → ReadsAt u2 (taking 2) s (head + 6) (got s n next)
-      → ValueResultAt (flags flag_tag) head s (ValueResult.Got (Value.Flags n))
+      → ValueAt (flags flag_tag) head s (Ok (Value.Flags n))
   flag_value n r = record { judged = fitted 2 _ n (judged_on _ r.says (used_up (given refl) (omega (arith, r.moves)))); has_bits = tt }
 
 -- ---- by tag

@@ -8,9 +8,9 @@ use native.Mathlib.Omega.{arith}
 use lib.ListN.{length, get_or, take, drop, replicate, length-drop, length-replicate}
 use lib.Seq.{drop-drop, get_or-take, get_or-drop}
 use Rattle.format.specs.Bytes.{sum}
-use Rattle.format.specs.Mesh.{word, polygon_from, polygon_size, surface_from, record_size}
+use Rattle.format.specs.Mesh.{word, polygon_from, polygon_size, record_size}
 use Rattle.format.specs.Written.{pieces, entries, polygons_from}
-use Rattle.mesh.specs.Lent.{entry_at, column, mesh_polygons, mesh_surfaces}
+use Rattle.mesh.specs.Lent.{entry_at, mesh_polygons, mesh_surfaces}
 
 pub first : (n : ℕ) (ws : List ℕ) → 0 < n → n ≤ length ws → entries n ws ≡ take n ws ∷ entries n (drop n ws)
 unfolding entries pieces
@@ -56,24 +56,7 @@ length_entries n ws = length_pieces (replicate (length ws / n) n) ws ∙ length-
 pub word_is : (n at index : ℕ) (ws : List ℕ) → index < n → get_or ws (at + index) 0 ≡ word index (entry_at n at ws)
 word_is n at index ws inside = rw (get_or-take n (drop at ws) index 0 inside, get_or-drop at ws index 0)
 
-module _ (n index at : ℕ) (ws : List ℕ) where
-  pub column_at : 0 < n → n ≤ length ws - at → column n index (drop at ws) ≡ word index (entry_at n at ws) ∷ column n index (drop (at + n) ws)
-  column_at some fits = rw (entries_at n at ws some fits)
-
-  pub column_past : length ws - at < n → column n index (drop at ws) ≡ []
-  column_past short = rw (entries_past n at ws short)
-
-pub sum_at : (n index at : ℕ) (ws : List ℕ) → 0 < n → n ≤ length ws - at
-    → sum (column n index (drop at ws)) ≡ word index (entry_at n at ws) + sum (column n index (drop (at + n) ws))
-unfolding sum
-sum_at n index at ws some fits = rw (entries_at n at ws some fits)
-
 -- ---- records
-
-pub surfaces_at : (at : ℕ) (ws : List ℕ) → record_size ≤ length ws - at
-    → mesh_surfaces (drop at ws) ≡ surface_from (entry_at record_size at ws) ∷ mesh_surfaces (drop (at + record_size) ws)
-unfolding mesh_surfaces
-surfaces_at at ws fits = rw (entries_at record_size at ws (omega arith) fits)
 
 pub surfaces_past : (at : ℕ) (ws : List ℕ) → length ws - at < record_size → mesh_surfaces (drop at ws) ≡ []
 unfolding mesh_surfaces

@@ -7,3 +7,5 @@ pub mod RunWalk
 pub mod Pairs
 pub mod Records
 pub mod MeshFacts
+pub mod PolygonEntries
+pub mod NamedRecords

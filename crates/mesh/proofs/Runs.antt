@@ -1,13 +1,13 @@
 -- The first run of what is left, by the places where it begins and ends: its words and vertices are in front, and the other runs are of what stands after.
 use Rattle.std.specs.Prelude.{if◌then◌else◌}
-use Prim.Native.Nat.{ℕ, zero, suc, ◌+◌, ◌-◌, ◌*◌, ◌/◌, ◌<◌, ◌≤◌}
+use Prim.Native.Nat.{ℕ, zero, suc, ◌+◌, ◌-◌, ◌*◌, ◌/◌, ◌≤◌}
 use mathlib.Core.Path.{subst, ◌≡◌, refl, sym, ap, ◌∙◌}
 use mathlib.Core.List.{List, [], ◌∷◌, ◌++◌, map, map-append}
 use mathlib.Core.Bool.{Bool, true, false}
 use native.Mathlib.Omega.{arith}
 use lib.Dec.{eqb}
-use lib.ListN.{length, take, drop, length-drop, length-map}
-use lib.Seq.{drop_at, take_at, take-take, drop-drop, length-take-le}
+use lib.ListN.{length, take, drop, length-append, length-drop, length-map}
+use lib.Seq.{drop_at, take_at, take_all, take-take, drop-drop, length-take-le}
 use borrow.Author.Tests.{eqb-true, eq-eqb, ne_eqb}
 use Rattle.format.specs.Bytes.{sum}
 use Rattle.format.specs.Mesh.{Polygon, word, polygon_size, polygon_from}
@@ -16,7 +16,10 @@ use Rattle.format.specs.Written.{pieces, entries, polygons_from, vertex_counts}
 use Rattle.format.proofs.Facts.{sum_append}
 use Rattle.format.proofs.Indexed.{part_of_front}
 use Rattle.mesh.specs.Lent.{entry_at, column, mesh_polygons}
-use Rattle.mesh.proofs.Entries.{first, entries_none, length_entries, column_at, column_past, polygons_at}
+use Rattle.mesh.proofs.Entries.{first, entries_none, length_entries, polygons_at}
+use Rattle.mesh.proofs.ColumnWalk.{entries_next, NextEntry, NoEntry}
+use Rattle.std.specs.declared.slice.ChunksExact.{ChunksExact}
+use Rattle.std.specs.Slice.Iter.{chunks_exact_rest, chunks_exact_size}
 use Rattle.mesh.specs.Polygons.{leading, run_end}
 
 abbrev kind_of : Polygon → ℕ
@@ -154,31 +157,44 @@ module _ (ws vs : List ℕ) (at first end : ℕ) (fits : polygon_size ≤ length
 
 -- ---- where a run ends: the end so far, and the words of the polygons after it that have the run's kind
 
-pub record RunSoFar (ws : List ℕ) (at kind end : ℕ) : Type 0 where
+-- a slice from a place to the end
+pub from_place : (at : ℕ) (ws : List ℕ) → take (length ws - at) (drop at ws) ≡ drop at ws
+from_place at ws = take_all (length ws - at) (drop at ws) (omega (arith, length-drop at ws))
+
+pub record RunSoFar (ws : List ℕ) (at kind end : ℕ) (s : ChunksExact ℕ) : Type 0 where
   pub kind_is : kind ≡ word 0 (entry_at polygon_size at ws)
-  pub so : run_end ws at ≡ end + leading kind (column polygon_size 0 (drop end ws)) * polygon_size
-  pub inside : end ≤ length ws
+  pub size_is : chunks_exact_size s ≡ polygon_size
+  pub so : run_end ws at ≡ end + leading kind (column polygon_size 0 (chunks_exact_rest s)) * polygon_size
+  pub inside : end + length (chunks_exact_rest s) ≡ length ws
 
-pub run_begin : {ws : List ℕ} {at kind : ℕ} → kind ≡ word 0 (entry_at polygon_size at ws) → at + polygon_size ≤ length ws → RunSoFar ws at kind (at + polygon_size)
-run_begin is inside = record { kind_is = is; so = rw is; inside = inside }
+pub run_begin : {ws : List ℕ} {at kind : ℕ} {s : ChunksExact ℕ} → kind ≡ word 0 (entry_at polygon_size at ws) → at + polygon_size ≤ length ws
+    → chunks_exact_rest s ≡ drop (at + polygon_size) ws → chunks_exact_size s ≡ polygon_size → RunSoFar ws at kind (at + polygon_size) s
+run_begin {ws} {at} is inside rest size = record { kind_is = is; size_is = size; so = rw (is, rest); inside = rw rest (omega (arith, length-drop (at + polygon_size) ws)) }
 
-module _ {ws : List ℕ} {at kind end : ℕ} (w : RunSoFar ws at kind end) where
-  pub run_past : length ws - end < polygon_size → (end ≡ run_end ws at) × (end ≤ length ws)
+module _ {ws : List ℕ} {at kind end : ℕ} {s : ChunksExact ℕ} (w : RunSoFar ws at kind end s) (t : ChunksExact ℕ) where
+  pub run_past : NoEntry s t → (end ≡ run_end ws at) × (end ≤ length ws)
   unfolding leading
-  run_past short = (omega (arith, rw (column_past polygon_size 0 end ws short) at w.so), w.inside)
+  run_past none = (omega (arith, rw (entries_none polygon_size (chunks_exact_rest s) (omega (arith, none.1.0, w.size_is))) at w.so), omega (arith, w.inside))
 
-  module _ (fits : polygon_size ≤ length ws - end) {next : ℕ} (is : next ≡ word 0 (entry_at polygon_size end ws)) where
-    kinds_left : column polygon_size 0 (drop end ws) ≡ next ∷ column polygon_size 0 (drop (end + polygon_size) ws)
-    kinds_left = rw is (column_at polygon_size 0 end ws (omega arith) fits)
+  module _ (x : List ℕ) (step : NextEntry s t x) {next : ℕ} (is : next ≡ word 0 (entry_at polygon_size 0 x)) where
+    long : length x ≡ polygon_size
+    long = rw (← w.size_is) step.1.1
 
-    pub run_turn : kind ≡ next → RunSoFar ws at kind (end + polygon_size)
+    kinds_left : column polygon_size 0 (chunks_exact_rest s) ≡ next ∷ column polygon_size 0 (chunks_exact_rest t)
+    kinds_left = rw (step.1.0, is, take_all polygon_size x (omega (arith, long)), entries_next polygon_size x (chunks_exact_rest t) (omega arith) long)
+
+    count : end + polygon_size + length (chunks_exact_rest t) ≡ length ws
+    count = omega (arith, ap length step.1.0, length-append x (chunks_exact_rest t), long, w.inside)
+
+    pub run_turn : kind ≡ next → RunSoFar ws at kind (end + polygon_size) t
     unfolding leading
     run_turn same = record {
       kind_is = w.kind_is;
+      size_is = rw (← w.size_is) step.0;
       so = omega (arith, rw (kinds_left, eq-eqb kind next same) at w.so);
-      inside = omega (arith, w.inside);
+      inside = count;
     }
 
     pub run_other : (kind ≡ next → ⊥) → (end ≡ run_end ws at) × (end ≤ length ws)
     unfolding leading
-    run_other other = (omega (arith, rw (kinds_left, ne_eqb kind next other) at w.so), w.inside)
+    run_other other = (omega (arith, rw (kinds_left, ne_eqb kind next other) at w.so), omega (arith, w.inside))

@@ -1,4 +1,4 @@
-// The polygons table: an entry is four words, the kind, the vertex count, the surface number and the part name. `at` is the place of an entry's first word.
+// The polygons table: an entry is four words, the kind, the vertex count, the surface number and the part name.
 // Code that walks the table sees each polygon by `polygon_at`: which word is what is known here, and beside it by the code that puts the words.
 ghost use Rattle.std.specs.Prelude.{◌≡◌, ◌+◌, ◌*◌, ◌≤◌, ◌<◌, ◌^◌, length};
 ghost use Rattle.format.specs.Bytes.{sum};
@@ -8,12 +8,12 @@ ghost use Rattle.format.specs.Written.{vertex_counts};
 ghost use Rattle.mesh.specs.Lent.{entry_at};
 ghost use Rattle.mesh.specs.Polygons.{polygon_at, run_end};
 
-use crate::columns::{sum_of, word_at};
+use crate::columns::sum_of;
 use format::{PART_WORD, POLYGON_WORDS, SURFACE_WORD};
-use words::wide;
 
 // One polygon of the tables: its kind, its surface number, its part name, and the places where its vertices begin and end.
-#[derive(Clone, Copy)]
+// The kind is a number and no enum, as the word in the table, which the C interface hands out.
+#[derive(Clone, Copy, Debug, PartialEq, Eq)]
 pub struct Polygon {
     pub kind: u32,
     pub surface: u32,
@@ -22,30 +22,26 @@ pub struct Polygon {
     pub end: usize,
 }
 
-// The polygon whose entry is at a place. Its vertices begin where those of the polygon before it end, which the caller knows.
-pub fn polygon_at(polygons: &[u32], at: usize, first: usize) -> Polygon
-    requires { (at + polygon_size ≤ length polygons.now) × (first + word 1 (entry_at polygon_size at polygons.now) < 2 ^ 64) }
-    ensures { result ≡ polygon_at polygons.now at first }
+// The polygon whose entry the words begin with. Its vertices begin where those of the polygon before it end, which the caller knows.
+pub fn polygon_at(entry: &[u32], first: usize) -> Polygon
+    requires { (polygon_size ≤ length entry.now) × (first + word 1 (entry_at polygon_size 0 entry.now) < 2 ^ 64) }
+    ensures { result ≡ polygon_at entry.now 0 first }
 {
-    let kind = word_at(polygons, POLYGON_WORDS, at, 0);
-    let count = word_at(polygons, POLYGON_WORDS, at, 1);
-    let surface = word_at(polygons, POLYGON_WORDS, at, SURFACE_WORD);
-    let part_name = word_at(polygons, POLYGON_WORDS, at, PART_WORD);
     Polygon {
-        kind,
-        surface,
-        part_name,
+        kind: entry[0],
+        surface: entry[SURFACE_WORD],
+        part_name: entry[PART_WORD],
         first,
-        end: first + wide(count),
+        end: first + entry[1] as usize,
     }
 }
 
-// The kind alone, for the runs.
-pub fn kind(polygons: &[u32], at: usize) -> u32
-    requires { at + polygon_size ≤ length polygons.now }
-    ensures { result ≡ word 0 (entry_at polygon_size at polygons.now) }
+// The kind of the first polygon, for the runs.
+pub fn kind(polygons: &[u32]) -> u32
+    requires { polygon_size ≤ length polygons.now }
+    ensures { result ≡ word 0 (entry_at polygon_size 0 polygons.now) }
 {
-    word_at(polygons, POLYGON_WORDS, at, 0)
+    polygons[0]
 }
 
 // How many vertices the polygons have together.
@@ -61,10 +57,10 @@ pub fn run_end(polygons: &[u32], at: usize) -> usize
     requires { at + polygon_size ≤ length polygons.now }
     ensures { (result ≡ run_end polygons.now at) × (result ≤ length polygons.now) }
 {
-    let first = kind(polygons, at);
+    let first = kind(&polygons[at..]);
     let mut end = at + POLYGON_WORDS;
-    while POLYGON_WORDS <= polygons.len() - end {
-        if first != kind(polygons, end) {
+    for entry in polygons[end..].chunks_exact(POLYGON_WORDS) {
+        if first != kind(entry) {
             return end;
         }
         end += POLYGON_WORDS;

@@ -1,5 +1,6 @@
 pub mod HashLoop
 pub mod Links
 pub mod NewName
+pub mod HeldNames
 pub mod DifferentNames
-pub mod ListedNames
+mod ListedNames

@@ -1,4 +1,5 @@
 -- A name that is looked for: each name at hand that is equal to it lies on the links from where the search stands, so that where they end there is none.
+use Rattle.std.specs.Prelude.{Some, None}
 use Prim.Native.Nat.{ℕ, zero, suc, ◌+◌, ◌-◌, ◌<◌, ◌≤◌}
 use mathlib.Core.Path.{◌≡◌, refl, sym, ◌∙◌}
 use mathlib.Core.List.{List, [], ◌∷◌}
@@ -27,12 +28,10 @@ module _ (x bytes : List ℕ) (base : ℕ) (words : List ℕ) where
       not_amongst x (names_of bytes base words) (λ k l e. h k (omega (arith, m)) (sym (name_at bytes base words k (omega (arith, m))) ∙ e))
 
 -- a name that was found is amongst them
-module _ {x bytes words : List ℕ} {base : ℕ} where
-  pub found_amongst : {r : ℕ} → Found x bytes base words r → (r ≡ 0 → ⊥) → amongst x (names_of bytes base words) ≡ true
-  found_amongst {r} f some =
-      let m = length-map words (name_of bytes base) in
-      let l : r - 1 < length words = omega (arith, f.few) in
-      is_amongst x (names_of bytes base words) (r - 1) (omega (arith, m)) (name_at bytes base words (r - 1) l ∙ f.yes (omega arith))
+pub found_amongst : (x bytes : List ℕ) (base : ℕ) (words : List ℕ) (k : ℕ) → Found x bytes base words (Some k) → amongst x (names_of bytes base words) ≡ true
+found_amongst x bytes base words k f =
+    let m = length-map words (name_of bytes base) in
+    is_amongst x (names_of bytes base words) k (omega (arith, m, f.0)) (name_at bytes base words k f.0 ∙ f.1)
 
 -- ---- by the links
 
@@ -49,20 +48,16 @@ module _ {multiplier : ℕ} {x bytes : List ℕ} {base : ℕ} {words heads links
   }
 
   module _ {k : ℕ} (v : Seeking x bytes base words links k) where
-    pub not_found : k ≡ 0 → Found x bytes base words 0
-    not_found z = record { few = omega arith; yes = λ p. absurd (omega arith); no = λ e. nowhere x bytes base words (λ j l n. go (v.each j l n)) }
+    pub not_found : k ≡ 0 → Found x bytes base words None
+    not_found z = nowhere x bytes base words (λ j l n. go (v.each j l n))
       where
         go : {j : ℕ} → Reach links j k → ⊥
         go (here e) = omega arith
         go (there p r) = omega arith
 
     module _ (some : k ≡ 0 → ⊥) where
-      pub found : true ≡ same x (name_of bytes base (get_or words (k - 1) 0)) → Found x bytes base words k
-      found t = record {
-        few = v.few;
-        yes = λ p. sym (same_eq x (name_of bytes base (get_or words (k - 1) 0)) (sym t));
-        no = λ z. absurd (some z);
-      }
+      pub found : true ≡ same x (name_of bytes base (get_or words (k - 1) 0)) → Found x bytes base words (Some (k - 1))
+      found t = (omega (arith, v.few), sym (same_eq x (name_of bytes base (get_or words (k - 1) 0)) (sym t)))
 
       pub falls : get_or links (k - 1) 0 < k
       falls = omega (arith, w.down (k - 1) (omega (arith, v.few)))

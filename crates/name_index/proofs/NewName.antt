@@ -2,14 +2,14 @@
 use Prim.Native.Nat.{ℕ, ◌+◌, ◌-◌, ◌*◌, ◌/◌, ◌%◌, ◌<◌, ◌≤◌}
 use mathlib.Core.Path.{◌≡◌, refl, sym, ap, ◌∙◌}
 use mathlib.Core.List.{List, [], ◌∷◌, ◌++◌, map-append}
-use mathlib.Core.Bool.{Bool, true, false, ◌&&◌, false≢true, and-eq-true_iff}
+use mathlib.Core.Bool.{Bool, true, false}
 use mathlib.Core.Logic.{◌⊎◌, inl, inr, ⊎_elim}
 use native.Mathlib.Numerals.{add-one}
 use native.Mathlib.Omega.{arith}
-use lib.Dec.{eqb, ltb}
+use lib.Dec.{eqb}
 use lib.ListN.{length, get_or, set, take, drop, replicate, get_or-replicate, length-append, length-replicate, length-set, get_or-append}
 use lib.Seq.{get_or-set_same, get_or-set_other, get_or_at, take-suc-set, length-take-le}
-use borrow.Author.Tests.{eqb-true, eqb-false, ltb-true, eq-eqb, lt-ltb}
+use borrow.Author.Tests.{eqb-true, eqb-false}
 use Rattle.name_index.specs.Index.{bucket_of, name_of, names_of, Inside, AllInside, Reach, here, there, Index}
 use Rattle.name_index.proofs.HashLoop.{bucket_less}
 
@@ -151,14 +151,3 @@ module _ (bytes places : List ℕ) {base m p n : ℕ} (room : m < length places)
         rw taken
         (one_more w (sym (length-take-le m places (omega arith))) few ((p - base) * 256 + n) (word_inside bytes after fits short)
         (eb ∙ ap (bucket_of multiplier) (sym (word_name bytes after fits short))))
-
--- ---- whether a name is taken in: the block goes on where the search stands, and there is room
-
-module _ (next p m : ℕ) where
-  pub next_taken : (eqb next p && ltb m 8192) ≡ true → (next ≡ p) × (m < 8192)
-  next_taken t =
-      let a = (and-eq-true_iff (eqb next p) (ltb m 8192)).0 t in
-      (eqb-true next p a.0, ltb-true m 8192 a.1)
-
-  pub next_left : (eqb next p && ltb m 8192) ≡ false → next ≡ p → m < 8192 → ⊥
-  next_left f a b = false≢true (sym f ∙ rw (eq-eqb next p a, lt-ltb m 8192 b))

@@ -1,6 +1,6 @@
 -- Names at hand and their index. `bytes` is the slice that they stand in, and `base` the place that their places count from. A name's word is its place times 256,
 -- and its length.
-use Rattle.std.specs.Prelude.{ℕ, ◌+◌, ◌-◌, ◌*◌, ◌/◌, ◌%◌, ◌<◌, ◌≤◌, ◌≡◌, Bool, true, false, not, ◌&&◌, length, get_or, take, drop}
+use Rattle.std.specs.Prelude.{ℕ, ◌+◌, ◌-◌, ◌*◌, ◌/◌, ◌%◌, ◌<◌, ◌≤◌, ◌≡◌, Bool, true, false, not, ◌&&◌, Option, Some, None, length, get_or, take, drop}
 use mathlib.Core.List.{List, [], ◌∷◌, ◌++◌, foldl, map}
 use Rattle.format.specs.Bytes.{amongst}
 use Rattle.format.specs.Mesh.{Name}
@@ -57,11 +57,10 @@ pub record Index (multiplier : ℕ) (bytes : List ℕ) (base : ℕ) (words heads
   pub tops : (b : ℕ) → b < 16384 → get_or heads b 0 ≤ length words
   pub reached : (k : ℕ) → k < length words → Reach links k (get_or heads (bucket_of multiplier (name_of bytes base (get_or words k 0))) 0)
 
--- the number of the name x, or 0
-pub record Found (x : Name) (bytes : List ℕ) (base : ℕ) (words : List ℕ) (r : ℕ) : Type 0 where
-  pub few : r ≤ length words
-  pub yes : 0 < r → name_of bytes base (get_or words (r - 1) 0) ≡ x
-  pub no : r ≡ 0 → amongst x (names_of bytes base words) ≡ false
+-- where the name x is among the words, or that none has it
+abbrev pub Found : (x : Name) (bytes : List ℕ) (base : ℕ) (words : List ℕ) → Option ℕ → Type 0
+Found x bytes base words (Some k) = (k < length words) × (name_of bytes base (get_or words k 0) ≡ x)
+Found x bytes base words None = amongst x (names_of bytes base words) ≡ false
 
 -- ---- names that are all different
 

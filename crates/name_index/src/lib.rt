@@ -8,15 +8,17 @@
 
 pub mod listed;
 
-ghost use Rattle.std.specs.Prelude.{◌≡◌, ◌+◌, ◌-◌, ◌*◌, ◌<◌, ◌≤◌, get_or, set};
+ghost use Rattle.std.specs.Prelude.{◌≡◌, ◌+◌, ◌-◌, ◌*◌, ◌<◌, ◌≤◌, leb};
 ghost use Rattle.format.specs.Bytes.{same, amongst};
 ghost use Rattle.format.specs.Limits.{name_limit};
-ghost use Rattle.name_index.specs.Index.{first_multiplier, mixed, hash_of, multiplier_of, bucket_of, name_of, names_of, Inside, AllInside, Index, Found};
-
-use words::same_bytes;
+ghost use Rattle.name_index.specs.Index.{first_multiplier, mixed, hash_of, multiplier_of, bucket_of, name_of, names_of, Inside, AllInside, Found};
+ghost use Rattle.name_index.specs.NameIndex.{IsIndex, IsEmptyIndex, RoomForName, with_name, words_in};
 
 // The most names at hand.
 pub const ROOM: usize = 8192;
+
+// The buckets of an index.
+const BUCKETS: usize = 16384;
 
 // So few names are compared one by one: an index of them would cost more than it saves.
 pub const FEW: usize = 64;
@@ -36,11 +38,9 @@ fn mix(h: u32, b: u8, multiplier: u32) -> u32
 fn hash(bytes: &[u8], multiplier: u32) -> u32
     ensures { result ≡ hash_of multiplier bytes.now }
 {
-    let mut h: u32 = 0;
-    let mut i = 0;
-    while i < bytes.len() {
-        h = mix(h, bytes[i], multiplier);
-        i += 1;
+    let mut h = 0;
+    for b in bytes {
+        h = mix(h, *b, multiplier);
     }
     h
 }
@@ -51,10 +51,8 @@ pub fn multiplier_of(list: &[u8]) -> u32
     ensures { result ≡ multiplier_of list.now }
 {
     let mut h = hash(list, FIRST);
-    let mut i = 0;
-    while i < list.len() {
-        h = mix(h, list[i], FIRST + h % 16777216);
-        i += 1;
+    for b in list {
+        h = mix(h, *b, FIRST + h % 16777216);
     }
     h
 }
@@ -70,7 +68,7 @@ pub fn next_multiplier(multiplier: u32) -> u32
 fn bucket(name: &[u8], multiplier: u32) -> usize
     ensures { (result ≡ bucket_of multiplier name.now) × (result < 16384) }
 {
-    (hash(name, multiplier) % 16384) as usize
+    hash(name, multiplier) as usize % BUCKETS
 }
 
 // The word of the name of n bytes at a place.
@@ -88,7 +86,7 @@ fn is_name(name: &[u8], bytes: &[u8], base: usize, word: u32) -> bool
 {
     let at = base + (word / 256) as usize;
     let end = at + (word % 256) as usize;
-    same_bytes(name, &bytes[at..end])
+    name == &bytes[at..end]
 }
 
 // Whether a name is one of those at hand, which are compared one by one.
@@ -96,56 +94,79 @@ pub fn among(name: &[u8], bytes: &[u8], base: usize, places: &[u32]) -> bool
     requires { AllInside bytes.now base places.now }
     ensures { result ≡ amongst name.now (names_of bytes.now base places.now) }
 {
-    let mut k = 0;
-    while k < places.len() {
-        if is_name(name, bytes, base, places[k]) {
+    for word in places {
+        if is_name(name, bytes, base, *word) {
             return true;
         }
-        k += 1;
     }
     false
 }
 
-// The number of the name, or 0 where it is not at hand.
-pub fn find(
-    name: &[u8],
-    multiplier: u32,
-    bytes: &[u8],
+// Some names of a slice of bytes, whose places count from the place `base`, and their index.
+// Its memory is fixed, so that `count` says how many of the places and links are filled. These are two arrays, since a place has four bytes and a link two:
+// joined, each entry would be filled up to eight. In links and heads 0 is none, which takes two bytes where an Option would take four.
+#[derive(Drop)]
+pub struct NameIndex<'a> {
+    bytes: &'a [u8],
     base: usize,
-    places: &[u32],
-    heads: &[u16],
-    links: &[u16],
-) -> usize
-    requires { Index multiplier bytes.now base places.now heads.now links.now }
-    ensures { Found name.now bytes.now base places.now result }
-{
-    let mut k = heads[bucket(name, multiplier)] as usize;
-    while k != 0 {
-        if is_name(name, bytes, base, places[k - 1]) {
-            return k;
-        }
-        k = links[k - 1] as usize;
-    }
-    0
+    multiplier: u32,
+    count: usize,
+    places: [u32; ROOM],
+    heads: [u16; BUCKETS],
+    links: [u16; ROOM],
 }
 
-// The name as number m + 1, by its word.
-pub fn add(
-    m: usize,
-    word: u32,
-    name: &[u8],
-    multiplier: u32,
-    places: &mut [u32; 8192],
-    heads: &mut [u16; 16384],
-    links: &mut [u16; 8192],
-)
-    requires { m < 8192 }
-    ensures places_after { places.new ≡ set places.old m word }
-    ensures links_after { links.new ≡ set links.old m (get_or heads.old (bucket_of multiplier name.now) 0) }
-    ensures heads_after { heads.new ≡ set heads.old (bucket_of multiplier name.now) (m + 1) }
-{
-    let b = bucket(name, multiplier);
-    places[m] = word;
-    links[m] = heads[b];
-    heads[b] = (m + 1) as u16;
+impl<'a> NameIndex<'a> {
+    // No name is at hand yet.
+    pub fn new(bytes: &'a [u8], base: usize, multiplier: u32) -> Self
+        ensures { IsEmptyIndex bytes.now base multiplier result }
+    {
+        NameIndex {
+            bytes,
+            base,
+            multiplier,
+            count: 0,
+            places: [0; ROOM],
+            heads: [0; BUCKETS],
+            links: [0; ROOM],
+        }
+    }
+
+    // Whether as many names are at hand as may be.
+    pub fn is_full(&self) -> bool
+        ensures { result ≡ leb 8192 self.now.count }
+    {
+        ROOM <= self.count
+    }
+
+    // Where the name is among those at hand.
+    pub fn find(&self, name: &[u8]) -> Option<usize>
+        requires { IsIndex self.now }
+        ensures { Found name.now self.now.bytes.now self.now.base (words_in self.now) result }
+    {
+        let words = &self.places[..self.count];
+        let mut k = self.heads[bucket(name, self.multiplier)] as usize;
+        // Each link leads to the next name of the bucket, and no range holds these steps.
+        while k != 0 {
+            if is_name(name, self.bytes, self.base, words[k - 1]) {
+                return Some(k - 1);
+            }
+            k = self.links[k - 1] as usize;
+        }
+        None
+    }
+
+    // One name more, of n bytes at a place. It says what each field is then, whatever the index was; that an index stays one is a law (`one_name_more`).
+    pub fn add(&mut self, at: usize, n: usize)
+        requires { RoomForName self.old at n }
+        ensures { self.new ≡ with_name self.old at n }
+    {
+        let m = self.count;
+        let end = at + n;
+        let b = bucket(&self.bytes[at..end], self.multiplier);
+        self.places[m] = word_of(self.base, at, n);
+        self.links[m] = self.heads[b];
+        self.heads[b] = (m + 1) as u16;
+        self.count = m + 1;
+    }
 }

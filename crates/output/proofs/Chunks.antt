@@ -1,5 +1,5 @@
 -- A chunk is a head, its body and its pad: put in this order, or the body first and the rest around it.
-use Prim.Native.Nat.{ℕ, ◌+◌, ◌-◌, ◌/◌, ◌%◌, ◌≤◌}
+use Prim.Native.Nat.{ℕ, ◌+◌, ◌-◌, ◌%◌, ◌≤◌}
 use Prim.Native.String.{String}
 use mathlib.Core.Path.{◌≡◌, refl, sym, ap, ◌∙◌}
 use mathlib.Core.List.{List, [], ◌∷◌, ◌++◌, map, append_assoc, append-nil}
@@ -169,22 +169,3 @@ module _ {A : Type 0} (tag type : String) (f : A → List ℕ) where
   unfolding unless_empty joined
   put_in [] some = absurd (some refl)
   put_in (x ∷ xs) some = append-nil (chunk_bytes 4 tag (spelt type ++ joined (map f (x ∷ xs))))
-
--- ---- the low bytes of a number
-
-module _ (n : ℕ) where
-  pub low_four : bytes 4 (n % 4294967296) ≡ bytes 4 n
-  unfolding bytes
-  low_four =
-      let a : n % 4294967296 / 256 / 256 / 256 % 256 ≡ n / 256 / 256 / 256 % 256 = omega arith in
-      let b : n % 4294967296 / 256 / 256 % 256 ≡ n / 256 / 256 % 256 = omega arith in
-      let c : n % 4294967296 / 256 % 256 ≡ n / 256 % 256 = omega arith in
-      let d : n % 4294967296 % 256 ≡ n % 256 = omega arith in
-      rw (a, b, c, d)
-
-  pub low_two : bytes 2 (n % 65536) ≡ bytes 2 n
-  unfolding bytes
-  low_two =
-      let c : n % 65536 / 256 % 256 ≡ n / 256 % 256 = omega arith in
-      let d : n % 65536 % 256 ≡ n % 256 = omega arith in
-      rw (c, d)

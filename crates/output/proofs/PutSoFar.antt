@@ -2,11 +2,10 @@
 use Prim.Native.Nat.{ℕ, zero, suc, ◌+◌, ◌-◌, ◌/◌, ◌%◌, ◌<◌, ◌≤◌}
 use mathlib.Core.Path.{◌≡◌, refl, sym, ap, ◌∙◌}
 use mathlib.Core.List.{List, [], ◌∷◌, ◌++◌, map, append_assoc, append-nil}
-use mathlib.Core.Bool.{true}
+use mathlib.Core.Bool.{Bool, true}
 use native.Mathlib.Omega.{arith}
-use lib.Dec.{ltb}
 use lib.ListN.{length, get_or, take, drop, set, replicate, length-append, length-set}
-use borrow.Author.Tests.{ltb-true}
+use Rattle.std.specs.Int.{bytes_high_first}
 use Rattle.format.specs.Bytes.{joined, all}
 use Rattle.format.specs.Items.{string_size}
 use Rattle.format.specs.Canonical.{bytes, string_bytes}
@@ -86,9 +85,6 @@ module _ (f : ℕ → List ℕ) (xs : List ℕ) (i : ℕ) where
   unfolding joined
   joined_none outside = rw (past_end xs i outside)
 
-pub byte_more : (xs : List ℕ) (i : ℕ) → i < length xs → NextPart (drop i xs) (get_or xs i 0 ∷ []) (drop (i + 1) xs)
-byte_more xs i inside = record { is = at_index xs i inside }
-
 module _ (ns bs : List ℕ) (i from : ℕ) where
   pub strings_more : {n : ℕ} → n ≡ get_or ns i 0 → i < length ns
       → NextPart (joined (map string_bytes (pieces (drop i ns) (drop from bs)))) (string_bytes (take (from + n - from) (drop from bs))) (joined (map string_bytes (pieces (drop (i + 1) ns) (drop (from + n) bs))))
@@ -99,15 +95,42 @@ module _ (ns bs : List ℕ) (i from : ℕ) where
   unfolding joined pieces
   strings_none outside = rw (past_end ns i outside)
 
--- where all numbers are below a bound, the i-th is
-pub below_at : (most : ℕ) (xs : List ℕ) (i : ℕ) → all (λ v. ltb v most) xs ≡ true → i < length xs → get_or xs i 0 < most
-below_at most xs i ok inside = ltb-true _ _ (all_first (λ v. ltb v most) (get_or xs i 0) (drop (i + 1) xs) (rw (at_index xs i inside) at (all_drop (λ v. ltb v most) xs i ok)))
+-- where all numbers pass a test, the i-th does
+pub holds_at : (p : ℕ → Bool) (xs : List ℕ) (i : ℕ) → all p xs ≡ true → i < length xs → p (get_or xs i 0) ≡ true
+holds_at p xs i ok inside = all_first p (get_or xs i 0) (drop (i + 1) xs) (rw (at_index xs i inside) at (all_drop p xs i ok))
+
+pub no_test : (xs : List ℕ) → all (λ x. true) xs ≡ true
+unfolding all
+no_test [] = refl
+no_test (x ∷ xs) = no_test xs
 
 -- ---- numbers and strings
 
-pub halves : (n : ℕ) → bytes 4 n ≡ bytes 2 (n / 65536) ++ bytes 2 n
+-- the library's bytes of a number are the specification's
+pub whole : (n : ℕ) → bytes_high_first 8 n ≡ bytes 8 n
 unfolding bytes
-halves n = let e : n / 65536 ≡ n / 256 / 256 = omega arith in rw e
+whole n =
+    let b : n / 65536 ≡ n / 256 / 256 = omega arith in
+    let c : n / 16777216 ≡ n / 65536 / 256 = omega arith in
+    let d : n / 4294967296 ≡ n / 16777216 / 256 = omega arith in
+    let e : n / 1099511627776 ≡ n / 4294967296 / 256 = omega arith in
+    let f : n / 281474976710656 ≡ n / 1099511627776 / 256 = omega arith in
+    let g : n / 72057594037927936 ≡ n / 281474976710656 / 256 = omega arith in
+    rw (g, f, e, d, c, b)
+
+-- the last of the eight bytes of a number
+pub low_bytes : (k n : ℕ) → k ≤ 8 → take (8 - (8 - k)) (drop (8 - k) (bytes 8 n)) ≡ bytes k n
+unfolding bytes
+low_bytes zero n h = refl
+low_bytes (suc zero) n h = refl
+low_bytes (suc (suc zero)) n h = refl
+low_bytes (suc (suc (suc zero))) n h = refl
+low_bytes (suc (suc (suc (suc zero)))) n h = refl
+low_bytes (suc (suc (suc (suc (suc zero))))) n h = refl
+low_bytes (suc (suc (suc (suc (suc (suc zero)))))) n h = refl
+low_bytes (suc (suc (suc (suc (suc (suc (suc zero))))))) n h = refl
+low_bytes (suc (suc (suc (suc (suc (suc (suc (suc zero)))))))) n h = refl
+low_bytes (suc (suc (suc (suc (suc (suc (suc (suc (suc k))))))))) n h = absurd (omega arith)
 
 -- the zeros of a string
 pub zeros : (k : ℕ) → k ≤ 2 → take {A = ℕ} k (0 ∷ 0 ∷ []) ≡ replicate k 0

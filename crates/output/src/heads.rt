@@ -3,15 +3,23 @@
 ghost use Rattle.std.specs.Prelude.{◌+◌, ◌-◌, ◌%◌, ◌≤◌, length, take, drop, replicate};
 ghost use Rattle.output.specs.Outputs.{Wrote, head_bytes, tagged_bytes};
 
-use crate::items::{put_u2, put_u4};
+use crate::items::{put_number, put_u4};
 
-// A tag and the low four bytes of a body's length: no body within the limit has more.
+// A tag and the low N bytes of a body's length: no body within the limit has more.
+fn put_tag<const N: usize>(out: &mut [u8], at: usize, tag: u32, n: usize) -> usize
+    requires { (N ≤ 8) × (at + length (head_bytes N tag n) ≤ length out.old) }
+    ensures { Wrote out.old at (head_bytes N tag n) out.new result }
+{
+    let next = put_u4(out, at, tag);
+    put_number::<N>(out, next, n)
+}
+
+// A chunk has a length of four bytes.
 pub fn put_head(out: &mut [u8], at: usize, tag: u32, n: usize) -> usize
     requires { at + length (head_bytes 4 tag n) ≤ length out.old }
     ensures { Wrote out.old at (head_bytes 4 tag n) out.new result }
 {
-    let next = put_u4(out, at, tag);
-    put_u4(out, next, (n % 4294967296) as u32)
+    put_tag::<4>(out, at, tag, n)
 }
 
 // A sub-chunk has a length of two bytes.
@@ -19,8 +27,7 @@ pub fn put_sub_head(out: &mut [u8], at: usize, tag: u32, n: usize) -> usize
     requires { at + length (head_bytes 2 tag n) ≤ length out.old }
     ensures { Wrote out.old at (head_bytes 2 tag n) out.new result }
 {
-    let next = put_u4(out, at, tag);
-    put_u2(out, next, (n % 65536) as u32)
+    put_tag::<2>(out, at, tag, n)
 }
 
 // A zero byte after a body whose length n is odd.

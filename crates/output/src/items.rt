@@ -6,17 +6,34 @@ ghost use Rattle.format.specs.Written.{pieces};
 ghost use Rattle.format.specs.Promises.{total};
 ghost use Rattle.output.specs.Outputs.{Wrote};
 
+use crate::each::{U4, Vx, put_each};
 use format::FIRST_LONG_INDEX;
-use words::wide;
+
+// Bytes as they are.
+pub fn put_bytes(out: &mut [u8], at: usize, part: &[u8]) -> usize
+    requires { at + length part.now ≤ length out.old }
+    ensures { Wrote out.old at part.now out.new result }
+{
+    let end = at + part.len();
+    out[at..end].copy_from_slice(part);
+    end
+}
+
+// The low N bytes of a number, the high one first.
+pub fn put_number<const N: usize>(out: &mut [u8], at: usize, n: usize) -> usize
+    requires { (N ≤ 8) × (at + N ≤ length out.old) }
+    ensures { Wrote out.old at (bytes N n) out.new result }
+{
+    let all = n.to_be_bytes();
+    put_bytes(out, at, &all[8 - N..])
+}
 
 // The low two bytes of a number, the high one first.
 pub fn put_u2(out: &mut [u8], at: usize, n: u32) -> usize
     requires { at + 2 ≤ length out.old }
     ensures { Wrote out.old at (bytes 2 n) out.new result }
 {
-    out[at] = (n / 256 % 256) as u8;
-    out[at + 1] = (n % 256) as u8;
-    at + 2
+    put_number::<2>(out, at, n as usize)
 }
 
 // Four bytes, the high one first.
@@ -24,8 +41,7 @@ pub fn put_u4(out: &mut [u8], at: usize, n: u32) -> usize
     requires { at + 4 ≤ length out.old }
     ensures { Wrote out.old at (bytes 4 n) out.new result }
 {
-    let low = put_u2(out, at, n / 65536);
-    put_u2(out, low, n)
+    put_number::<4>(out, at, n as usize)
 }
 
 // The shortest VX. An index has 24 bits.
@@ -45,13 +61,7 @@ pub fn put_words(out: &mut [u8], at: usize, words: &[u32]) -> usize
     requires { at + total (bytes 4) words.now ≤ length out.old }
     ensures { Wrote out.old at (joined (map (bytes 4) words.now)) out.new result }
 {
-    let mut next = at;
-    let mut i = 0;
-    while i < words.len() {
-        next = put_u4(out, next, words[i]);
-        i += 1;
-    }
-    next
+    put_each::<U4>(out, at, words)
 }
 
 // The vertices of a polygon, a VX each.
@@ -59,28 +69,7 @@ pub fn put_vertices(out: &mut [u8], at: usize, vertices: &[u32]) -> usize
     requires { (all (λ v. ltb v (2 ^ 24)) vertices.now ≡ true) × (at + total vx_bytes vertices.now ≤ length out.old) }
     ensures { Wrote out.old at (joined (map vx_bytes vertices.now)) out.new result }
 {
-    let mut next = at;
-    let mut i = 0;
-    while i < vertices.len() {
-        next = put_vx(out, next, vertices[i]);
-        i += 1;
-    }
-    next
-}
-
-// Bytes as they are.
-pub fn put_bytes(out: &mut [u8], at: usize, part: &[u8]) -> usize
-    requires { at + length part.now ≤ length out.old }
-    ensures { Wrote out.old at part.now out.new result }
-{
-    let mut next = at;
-    let mut i = 0;
-    while i < part.len() {
-        out[next] = part[i];
-        next += 1;
-        i += 1;
-    }
-    next
+    put_each::<Vx>(out, at, vertices)
 }
 
 // A name and its one or two zeros.
@@ -95,17 +84,16 @@ pub fn put_string(out: &mut [u8], at: usize, name: &[u8]) -> usize
 }
 
 // The names of a TAGS chunk.
+// The lengths and the joined bytes are two of the caller's tables. A pair of them would be taken apart in each contract, so they stay side by side.
 pub fn put_strings(out: &mut [u8], at: usize, lengths: &[u32], bytes: &[u8]) -> usize
     requires { (sum lengths.now ≡ length bytes.now) × (at + total string_bytes (pieces lengths.now bytes.now) ≤ length out.old) }
     ensures { Wrote out.old at (joined (map string_bytes (pieces lengths.now bytes.now))) out.new result }
 {
     let mut next = at;
-    let mut i = 0;
     let mut from = 0;
-    while i < lengths.len() {
-        let end = from + wide(lengths[i]);
+    for length in lengths {
+        let end = from + *length as usize;
         next = put_string(out, next, &bytes[from..end]);
-        i += 1;
         from = end;
     }
     next

@@ -4,7 +4,12 @@ use Rattle.format.specs.Bytes.{sum}
 use Rattle.format.specs.Items.{Reader, ◌>>=◌, give, many}
 use Rattle.format.specs.Mesh.{Polygon}
 use Rattle.format.specs.Bodies.{Part, polygon_list, face, patch, polygon}
-use Rattle.polygon_layouts.specs.declared.Layout.{Layout}
+
+-- faces and patches of an LWOB file, and the polygons of an LWO2 file, which are all of one kind
+pub data Layout : Type 0 where
+  Faces : Layout
+  Patches : Layout
+  Polygons : (kind : ℕ) → Layout
 
 -- a face stands beside the number of its details
 abbrev pub EntryOf : Layout → Type 0

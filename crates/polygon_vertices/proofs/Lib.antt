@@ -1,2 +1,2 @@
-mod CountedVertices
+pub mod CountedTurns
 pub mod SignedSurfaces

@@ -1,20 +1,27 @@
-// What a read answers: the number and place of a refusal, or the counts of a file that has a mesh; and whether the lent tables have room for it. Nothing is
+// What a read answers: the counts of a file that has a mesh, or why it was not read: its first fault, or that the lent tables have no room for it. Nothing is
 // written.
 #![tactic(auto)]
+
+use validate::counts::Totals;
+use wire::Refusal;
 
 pub mod answers;
 pub mod room;
 
-// The number of a refusal (0 accepted) and its place; the five needs, the skipped chunks and the details, which are 0 on every refusal but 16.
-#[derive(Clone, Copy)]
-pub struct ReadAnswer {
-    pub number: u32,
-    pub place: usize,
-    pub points: usize,
-    pub polygons: usize,
-    pub vertices: usize,
-    pub names: usize,
-    pub name_bytes: usize,
-    pub skipped: usize,
-    pub details: usize,
+// Why a file was not read: its first fault and the fault's place, or the counts of a mesh for which a table has no room.
+#[derive(Clone, Copy, Debug, PartialEq, Eq)]
+pub enum ReadError {
+    Refused(Refusal),
+    NoRoom(Totals),
+}
+
+impl From<Refusal> for ReadError {
+    ghost use Rattle.std.specs.Prelude.{◌≡◌};
+    ghost use Rattle.read_answer.specs.declared.ReadError.TheVariants.{Refused};
+
+    ghost from_gives = { λ f e. e ≡ Refused f };
+
+    fn from(f: Refusal) -> ReadError {
+        ReadError::Refused(f)
+    }
 }

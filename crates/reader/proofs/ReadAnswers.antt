@@ -4,10 +4,10 @@ use mathlib.Core.List.{List, map}
 use mathlib.Core.Bool.{Bool, true, false}
 use Prim.Native.Nat.{ℕ, ◌≤◌}
 use lib.ListN.{length, drop}
+use Rattle.std.specs.Prelude.{Ok, Err}
 use Rattle.format.specs.declared.Kind.{Kind}
 use Rattle.format.specs.Bytes.{byte, all, sum}
 use Rattle.format.specs.Limits.{file_limit}
-use Rattle.format.specs.Refusals.{number_of}
 use Rattle.format.specs.Items.{fine}
 use Rattle.format.specs.Chunks.{chunks}
 use Rattle.format.specs.Mesh.{Tables, needs}
@@ -18,23 +18,21 @@ use Rattle.format.specs.Answer.{fits, answer, tables_after, Reads}
 use Rattle.format.proofs.Verdicts.{FineWith, fine_with, stopped, then_fine, same_fine}
 use Rattle.format.proofs.ChunkWalk.{parts_fine, within_limit}
 use Rattle.wire.specs.declared.Refusal.{Refusal}
-use Rattle.read_answer.specs.declared.ReadAnswer.{ReadAnswer}
+use Rattle.read_answer.specs.declared.ReadError.TheVariants.{Refused, NoRoom}
 use Rattle.validate.specs.declared.counts.Totals.{Totals}
-use Rattle.validate.specs.declared.FileResult.{FileResult}
 use Rattle.validate.specs.Promises.{totals_of, needs_in, FileJudged}
 use Rattle.load.specs.Promises.{TablesRoom, TablesPut}
-use Rattle.read_answer.specs.Reads.{answer_as, refused_with, with_counts}
+use Rattle.read_answer.specs.Reads.{answer_as, with_counts}
 
 abbrev counts : Kind × List PartAt → Kind × Totals
 counts f = (f.0, totals_of f.0 (parts_of f.1))
 
-module _ {file : List ℕ} {t : Tables} {a : ReadAnswer} where
-  pub read_refused : {f : Refusal} → all byte file ≡ true → FileJudged file (FileResult.Refused f) → answer_as a ≡ refused_with (number_of f.why) f.at
-      → Reads file t (answer_as a) t
+module _ {file : List ℕ} {t : Tables} where
+  pub read_refused : {f : Refusal} → all byte file ≡ true → FileJudged file (Err f) → Reads file t (answer_as (Err (Refused f))) t
   unfolding rules outcome answer tables_after
-  read_refused bytes w e = let j = stopped (judged file) counts w.is in record { bytes = bytes; answers = e ∙ rw j; leaves = rw j }
+  read_refused bytes w = let j = stopped (judged file) counts w.is in record { bytes = bytes; answers = rw j; leaves = rw j }
 
-module _ {file : List ℕ} {kind : Kind} {totals : Totals} (w : FileJudged file (FileResult.Counts kind totals)) where
+module _ {file : List ℕ} {kind : Kind} {totals : Totals} (w : FileJudged file (Ok (kind, totals))) where
   found : FineWith (judged file) counts (kind, totals)
   found = fine_with (judged file) counts w.is
 
@@ -80,19 +78,19 @@ module _ {file : List ℕ} {kind : Kind} {totals : Totals} (w : FileJudged file 
   unfolding totals_of needs mesh_of
   tables_room {t} e room = record { parts = parts; sound = walked; few = few; names_are = ap (λ z. z.names) totals_are; roomy = fits_is t e ∙ room }
 
-  module _ {t : Tables} {a : ReadAnswer} {b : Bool} (bytes : all byte file ≡ true) (e : b ≡ fits (needs_in totals) t) where
-    pub read_accepted : {t' : Tables} → b ≡ true → TablesPut kind file t t' → answer_as a ≡ with_counts 0 totals → Reads file t (answer_as a) t'
+  module _ {t : Tables} {b : Bool} (bytes : all byte file ≡ true) (e : b ≡ fits (needs_in totals) t) where
+    pub read_accepted : {t' : Tables} → b ≡ true → TablesPut kind file t t' → Reads file t (answer_as (Ok totals)) t'
     unfolding answer tables_after totals_of
-    read_accepted room p says =
+    read_accepted room p =
         let roomy : fits (needs (mesh_of kind parts)) t ≡ true = fits_is t e ∙ room in
         record {
           bytes = bytes;
-          answers = says ∙ ap (with_counts 0) totals_are ∙ rw (mesh_is, roomy);
+          answers = ap (with_counts 0) totals_are ∙ rw (mesh_is, roomy);
           leaves = p.put parts walked ∙ rw (mesh_is, roomy);
         }
 
-    pub read_no_room : b ≡ false → answer_as a ≡ with_counts 16 totals → Reads file t (answer_as a) t
+    pub read_no_room : b ≡ false → Reads file t (answer_as (Err (NoRoom totals))) t
     unfolding answer tables_after totals_of
-    read_no_room none says =
+    read_no_room none =
         let short : fits (needs (mesh_of kind parts)) t ≡ false = fits_is t e ∙ none in
-        record { bytes = bytes; answers = says ∙ ap (with_counts 16) totals_are ∙ rw (mesh_is, short); leaves = rw (mesh_is, short) }
+        record { bytes = bytes; answers = ap (with_counts 16) totals_are ∙ rw (mesh_is, short); leaves = rw (mesh_is, short) }

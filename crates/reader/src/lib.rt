@@ -7,12 +7,14 @@ ghost use Rattle.format.specs.Answer.{Reads};
 ghost use Rattle.read_answer.specs.Reads.{answer_as};
 
 use load::fill_tables;
-use read_answer::ReadAnswer;
-use read_answer::answers::{refused, with_counts};
+use mesh::lent::Tables;
+use read_answer::ReadError;
 use read_answer::room::has_room;
-use validate::{FileResult, validate};
+use validate::counts::Totals;
+use validate::validate;
 
-// Reads a file into the lent tables. Nothing is put into a table before the whole file is judged and every table has room.
+// Reads a file into the lent tables. Nothing is put into a table before the whole file is judged and every table has room. The tables are lent one by one: of a
+// struct of `&mut` slices each contract would have to say once more which slice is which after the call.
 pub fn read(
     file: &[u8],
     points: &mut [u32],
@@ -21,30 +23,31 @@ pub fn read(
     names: &mut [u32],
     name_bytes: &mut [u8],
     records: &mut [u32],
-) -> ReadAnswer
+) -> Result<Totals, ReadError>
     ensures { Reads file.now (lent points.old polygons.old vertices.old names.old name_bytes.old records.old) (answer_as result) (lent points.new polygons.new vertices.new names.new name_bytes.new records.new) }
 {
-    match validate(file) {
-        FileResult::Refused(f) => refused(f),
-        FileResult::Counts { kind, totals } => {
-            if has_room(
-                totals, points, polygons, vertices, names, name_bytes, records,
-            ) {
-                fill_tables(
-                    file,
-                    kind,
-                    totals.names,
-                    points,
-                    polygons,
-                    vertices,
-                    names,
-                    name_bytes,
-                    records,
-                );
-                with_counts(0, totals)
-            } else {
-                with_counts(16, totals)
-            }
-        }
+    let (kind, totals) = validate(file)?;
+    let tables = Tables {
+        points,
+        polygons,
+        vertices,
+        names,
+        name_bytes,
+        records,
+    };
+    if !has_room(totals, &tables) {
+        return Err(ReadError::NoRoom(totals));
     }
+    fill_tables(
+        file,
+        kind,
+        totals.names,
+        points,
+        polygons,
+        vertices,
+        names,
+        name_bytes,
+        records,
+    );
+    Ok(totals)
 }

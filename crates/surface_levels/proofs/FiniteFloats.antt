@@ -8,6 +8,7 @@ use lib.Dec.{T}
 use lib.Ieee.{binary32, of_bits, nan_bits}
 use lib.Ieee.Bits.{nan_bits_above, nan_bits_is, to_bits-of_bits}
 use borrow.Author.Tests.{le-ltb}
+use Rattle.std.specs.Prelude.{Ok}
 use Rattle.format.specs.declared.Fault.TheVariants.{NotFinite}
 use Rattle.format.specs.Bytes.{finite}
 use Rattle.format.specs.Items.{u4, float}
@@ -15,7 +16,6 @@ use Rattle.format.specs.Promises.{ReadsAt, taking, got}
 use Rattle.format.proofs.Facts.{finite_bits}
 use Rattle.format.proofs.ReaderSteps.{was_good}
 use Rattle.wire.specs.declared.cursor.Cursor.{Cursor}
-use Rattle.surface_levels.specs.declared.level.FloatRead.{FloatRead}
 use Rattle.surface_levels.specs.Levels.{HasBits, bits}
 use Rattle.surface_levels.specs.Promises.{FloatAt}
 
@@ -39,5 +39,5 @@ module _ {s : List ℕ} {at v : ℕ} {c : Cursor} where
   pub read_not_nan : ReadsAt float (taking 4) s at (got s v c.at) → T (not (nan_bits binary32 v))
   read_not_nan w = no_nan v (read_finite w)
 
-  pub float_got : v < 2 ^ 32 → ReadsAt float (taking 4) s at (got s v c.at) → FloatAt s at (FloatRead.Got (of_bits binary32 v) c)
+  pub float_got : v < 2 ^ 32 → ReadsAt float (taking 4) s at (got s v c.at) → FloatAt s at (Ok (of_bits binary32 v, c))
   float_got few w = record { reads = rw (bits_back v few (read_finite w)) w; has_bits = has_bits v (read_finite w) }

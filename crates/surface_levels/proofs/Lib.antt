@@ -1,3 +1,4 @@
+mod LevelTags
 mod RoundedQuotient
 mod FiniteFloats
 pub mod ValueBodies

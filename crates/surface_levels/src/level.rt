@@ -2,15 +2,8 @@
 ghost use Rattle.surface_levels.specs.Levels.{LevelOf, ColourOf};
 ghost use Rattle.surface_levels.specs.Promises.{FloatAt};
 
-use wire::Refusal;
-use wire::cursor::{Cursor, Item};
-
-// A float, and the cursor after it.
-#[derive(Clone, Copy)]
-pub enum FloatRead {
-    Got(f32, Cursor),
-    Stop(Refusal),
-}
+use wire::Read;
+use wire::cursor::Cursor;
 
 // The short form of a level in an LWOB file. The division is exact.
 pub fn level(n: i16) -> f32
@@ -27,11 +20,9 @@ pub fn colour(b: u8) -> f32
 }
 
 // The float at a cursor. Only a finite one is read, so its bits are those that stand there.
-pub fn float_at(s: &[u8], c: Cursor) -> FloatRead
+pub fn float_at(s: &[u8], c: Cursor) -> Read<f32>
     ensures { FloatAt s.now c.at result }
 {
-    match c.float(s) {
-        Item::Stop(why) => FloatRead::Stop(Refusal { why, at: c.at }),
-        Item::Got(bits, next) => FloatRead::Got(f32::from_bits(bits), next),
-    }
+    let (bits, next) = c.float(s)?;
+    Ok((f32::from_bits(bits), next))
 }

@@ -4,4 +4,5 @@
 
 pub mod level;
 pub mod shading;
+pub mod sub_chunk;
 pub mod value;

@@ -1,32 +1,21 @@
 // The strings that the body of a SURF starts with.
 ghost use Rattle.surface_values.specs.Promises.{StringsAt};
 
-use format::{Fault, Kind};
-use wire::cursor::{Cursor, Text};
-use wire::{Refusal, Step};
+use format::Kind;
+use wire::Refusal;
+use wire::cursor::Cursor;
 
-// The strings before the sub-chunks: the name and, in LWO2, the source.
-pub fn strings(s: &[u8], kind: Kind) -> Step
+// The strings before the sub-chunks: the name and, in LWO2, the source. The cursor after them is kept.
+pub fn strings(s: &[u8], kind: Kind) -> Result<Cursor, Refusal>
     ensures { StringsAt kind s.now result }
 {
     let first = Cursor { at: 8 };
-    let Text::Got(_, after) = first.string(s) else {
-        return Step::Stop(Refusal {
-            why: Fault::StringOpen,
-            at: 8,
-        });
-    };
+    let (_, after) = first.string(s)?;
     match kind {
-        Kind::LWOB => Step::At(after),
+        Kind::LWOB => Ok(after),
         Kind::LWO2 => {
-            let at = after.at;
-            let Text::Got(_, last) = after.string(s) else {
-                return Step::Stop(Refusal {
-                    why: Fault::StringOpen,
-                    at,
-                });
-            };
-            Step::At(last)
+            let (_, last) = after.string(s)?;
+            Ok(last)
         }
     }
 }

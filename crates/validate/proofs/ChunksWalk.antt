@@ -3,10 +3,10 @@ use mathlib.Core.Path.{◌≡◌, sym, ap, ◌∙◌}
 use mathlib.Core.List.{List, ◌∷◌}
 use Prim.Native.Nat.{ℕ, ◌+◌, ◌-◌, ◌≤◌, ◌<◌}
 use native.Mathlib.Omega.{arith}
+use Rattle.std.specs.Prelude.{Ok, Err}
 use lib.ListN.{length, take, drop, length-drop, drop_of_length-le}
 use Rattle.format.specs.declared.Kind.{Kind}
 use Rattle.format.specs.declared.Fault.{Fault}
-use Rattle.format.specs.declared.Fault.TheVariants.{BadHeader}
 use Rattle.format.specs.Refusals.{place_of}
 use Rattle.format.specs.Items.{Verdict, fine, fault, ◌and_then◌}
 use Rattle.format.specs.Chunks.{size_of, Chunks, chunk, chunks}
@@ -19,15 +19,13 @@ use Rattle.format.proofs.Verdicts.{fine_with, stopped, then_same, then_then}
 use Rattle.format.proofs.Tiling.{none, no_chunk}
 use Rattle.laws.proofs.Readers.{fault_in_chunk}
 use Rattle.wire.specs.declared.Refusal.{Refusal}
-use Rattle.wire.specs.declared.cursor.Cursor.{Cursor}
 use Rattle.headers.specs.declared.Header.{Header}
 use Rattle.headers.specs.Promises.{HeaderAt}
+use Rattle.headers.proofs.Headers.{header_fault}
 use Rattle.headers.proofs.ChunkInFile.{body, front, size, long}
 use Rattle.validate_chunk.specs.Promises.{counted_of, before_of}
 use Rattle.validate.specs.declared.counts.Totals.{Totals}
 use Rattle.validate.specs.declared.counts.Seen.{Seen}
-use Rattle.validate.specs.declared.chunks.StepResult.{StepResult}
-use Rattle.validate.specs.declared.chunks.ChunksResult.{ChunksResult}
 use Rattle.validate.specs.Promises.{seen_with, nothing_seen, all_of, OneMoreSeen, totals_of, ChunksJudged}
 use Rattle.validate.proofs.FileCounts.{seen_after, same_before, totals_are}
 
@@ -63,48 +61,48 @@ module _ {kind : Kind} {file : List ℕ} {at : ℕ} {seen : Seen} (w : CountedTo
   abbrev before : Before
   before = before_of seen.lengths
 
-  pub end : length file ≤ at → ChunksJudged kind file (ChunksResult.Counts seen.totals)
+  pub end : length file ≤ at → ChunksJudged kind file (Ok seen.totals)
   unfolding ◌and_then◌ seen_after
   end h = record { is = sym (w.is ∙ rw (drop_of_length-le file {i = at} h, none, parts_finished kind before at)) }
 
   module _ (some : at < length file) where
-    pub no_header : HeaderAt 4 file at Header.Bad → ChunksJudged kind file (ChunksResult.Refused (record { why = BadHeader; at = at }))
+    pub no_header : {f : Refusal} → HeaderAt 4 file at (Err f) → ChunksJudged kind file (Err f)
     unfolding ◌and_then◌
     no_header h =
         let long : 0 < length (drop at file) = rw (length-drop at file) (omega arith) in
         let own : at + 0 ≡ at = omega arith in
-        record { is = sym (w.is ∙ rw (no_chunk at (drop at file) long (exactly h.reads.says), parts_broken kind before at, own)) }
+        record { is = sym (w.is ∙ rw (no_chunk at (drop at file) long (exactly h.reads.says), parts_broken kind before at, own, header_fault 4 h)) }
 
-    module _ {tag : ℕ} {end : ℕ} {next : Cursor} (h : HeaderAt 4 file at (Header.Got tag end next)) where
+    module _ {head : Header} (h : HeaderAt 4 file at (Ok head)) where
       -- the chunk as it is lent, its body, and the chunks after it
       abbrev lent : List ℕ
-      lent = take (end - at) (drop at file)
+      lent = take (head.end - at) (drop at file)
 
       abbrev inside : List ℕ
-      inside = drop (at + 8) (take end file)
+      inside = drop (at + 8) (take head.end file)
 
       abbrev later_chunks : Chunks
-      later_chunks = chunks (drop next.at file)
+      later_chunks = chunks (drop head.next.at file)
 
-      at_fault : {f : Refusal} → OneMoreSeen kind tag seen lent (StepResult.Stop f) → judge kind before tag (drop 8 lent) ≡ fault f.why f.at
-      at_fault d = stopped (judge kind before tag (drop 8 lent)) (λ part. seen_with seen (counted_of part)) d.is
+      at_fault : {f : Refusal} → OneMoreSeen kind head.tag seen lent (Err f) → judge kind before head.tag (drop 8 lent) ≡ fault f.why f.at
+      at_fault d = stopped (judge kind before head.tag (drop 8 lent)) (λ part. seen_with seen (counted_of part)) d.is
 
       -- a fault lies within its chunk, and so in the file
-      pub in_file : {f : Refusal} → OneMoreSeen kind tag seen lent (StepResult.Stop f) → at + f.at ≤ length file
-      in_file d = omega (arith, (fault_in_chunk kind before tag (drop 8 lent) (at_fault d)).within, length-drop 8 lent, long h, h.inside)
+      pub in_file : {f : Refusal} → OneMoreSeen kind head.tag seen lent (Err f) → at + f.at ≤ length file
+      in_file d = omega (arith, (fault_in_chunk kind before head.tag (drop 8 lent) (at_fault d)).within, length-drop 8 lent, long h, h.inside)
 
-      pub stop : {f : Refusal} {p : ℕ} → OneMoreSeen kind tag seen lent (StepResult.Stop f) → p ≡ place_of at f.at
-          → ChunksJudged kind file (ChunksResult.Refused (record { why = f.why; at = p }))
+      pub stop : {f : Refusal} {p : ℕ} → OneMoreSeen kind head.tag seen lent (Err f) → p ≡ place_of at f.at
+          → ChunksJudged kind file (Err (record { why = f.why; at = p }))
       stop {f} d place =
-          let judged : judge kind before tag inside ≡ fault f.why f.at = rw (body h) (at_fault d) in
-          record { is = sym (w.is ∙ rw (front h, place) (walk_stops kind before at tag inside later_chunks (λ parts. (seen_after seen parts).totals) judged)) }
+          let judged : judge kind before head.tag inside ≡ fault f.why f.at = rw (body h) (at_fault d) in
+          record { is = sym (w.is ∙ rw (front h, place) (walk_stops kind before at head.tag inside later_chunks (λ parts. (seen_after seen parts).totals) judged)) }
 
-      pub turn : {later : Seen} → OneMoreSeen kind tag seen lent (StepResult.Go later) → CountedTo kind file next.at later
+      pub turn : {later : Seen} → OneMoreSeen kind head.tag seen lent (Ok later) → CountedTo kind file head.next.at later
       unfolding seen_after
       turn {later} d =
-          let k = fine_with (judge kind before tag (drop 8 lent)) (λ part. seen_with seen (counted_of part)) d.is in
-          let judged : judge kind before tag inside ≡ fine k.value = rw (body h) k.is in
-          let on = walk_on kind before at tag inside later_chunks (λ parts. (seen_after seen parts).totals) judged in
-          let onward : rest kind file at seen ≡ rest kind file next.at (seen_with seen (counted_of k.value)) =
+          let k = fine_with (judge kind before head.tag (drop 8 lent)) (λ part. seen_with seen (counted_of part)) d.is in
+          let judged : judge kind before head.tag inside ≡ fine k.value = rw (body h) k.is in
+          let on = walk_on kind before at head.tag inside later_chunks (λ parts. (seen_after seen parts).totals) judged in
+          let onward : rest kind file at seen ≡ rest kind file head.next.at (seen_with seen (counted_of k.value)) =
           rw (front h) (on ∙ rw (size h, same_before seen.lengths k.value)) in
-          record { few = omega (arith, w.few, d.grown, long h, h.inside); is = w.is ∙ onward ∙ ap (rest kind file next.at) k.shows }
+          record { few = omega (arith, w.few, d.grown, long h, h.inside); is = w.is ∙ onward ∙ ap (rest kind file head.next.at) k.shows }

@@ -52,7 +52,7 @@ weight_is skipped_chunk = refl
 
 pub totals_grow : (t : Totals) (c : Counted) → all_of (totals_with t c) ≡ all_of t + weight c
 totals_grow t (Counted.Points n) = omega arith
-totals_grow t (Counted.Names n b) = omega arith
+totals_grow t (Counted.Names z) = omega arith
 totals_grow t (Counted.Polygons z) = omega arith
 totals_grow t Counted.Layer = omega arith
 totals_grow t Counted.Nothing = omega arith

@@ -1,6 +1,7 @@
 -- A file is judged by its header and then by its chunks, and the first fault of the two is its fault.
 use mathlib.Core.Path.{◌≡◌, sym}
 use mathlib.Core.List.{List}
+use Rattle.std.specs.Prelude.{Ok, Err}
 use Prim.Native.Nat.{ℕ}
 use lib.ListN.{drop}
 use Rattle.format.specs.declared.Kind.{Kind}
@@ -12,23 +13,21 @@ use Rattle.format.specs.Promises.{walk_parts, file_parts}
 use Rattle.format.proofs.Verdicts.{fine_with, stopped}
 use Rattle.wire.specs.declared.Refusal.{Refusal}
 use Rattle.validate.specs.declared.counts.Totals.{Totals}
-use Rattle.validate.specs.declared.chunks.ChunksResult.{ChunksResult}
-use Rattle.validate.specs.declared.FileResult.{FileResult}
 use Rattle.validate.specs.Promises.{totals_of, ChunksJudged, FileJudged}
 
 module _ {s : List ℕ} where
-  pub no_file : {why : Fault} → fault why 0 ≡ form s → FileJudged s (FileResult.Refused (record { why = why; at = 0 }))
+  pub no_file : {why : Fault} → fault why 0 ≡ form s → FileJudged s (Err (record { why = why; at = 0 }))
   unfolding judged ◌and_then◌
   no_file e = record { is = rw (← e) }
 
   module _ {kind : Kind} (headed : fine kind ≡ form s) where
-    pub refused : {f : Refusal} → ChunksJudged kind s (ChunksResult.Refused f) → FileJudged s (FileResult.Refused f)
+    pub refused : {f : Refusal} → ChunksJudged kind s (Err f) → FileJudged s (Err f)
     unfolding judged walk_parts ◌and_then◌
     refused {f} w =
         let none : fault f.why f.at ≡ file_parts kind s = sym (stopped (file_parts kind s) (totals_of kind) w.is) in
         record { is = rw (← headed, stopped (walk kind start 12 (chunks (drop 12 s))) parts_of none) }
 
-    pub counted : {t : Totals} → ChunksJudged kind s (ChunksResult.Counts t) → FileJudged s (FileResult.Counts kind t)
+    pub counted : {t : Totals} → ChunksJudged kind s (Ok t) → FileJudged s (Ok (kind, t))
     unfolding judged walk_parts ◌and_then◌
     counted w =
         let k = fine_with (file_parts kind s) (totals_of kind) w.is in

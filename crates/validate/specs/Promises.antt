@@ -1,29 +1,27 @@
 -- What the answers on the chunks of a file say, in the specification's words. `s` is a chunk's bytes from its tag up to its body's end.
-use Rattle.std.specs.Prelude.{ℕ, ◌+◌, ◌≤◌, ◌≡◌, List, map, length, drop}
+use Rattle.std.specs.Prelude.{ℕ, ◌+◌, ◌≤◌, ◌≡◌, List, map, length, drop, Some, None, Result, Ok, Err}
 use Rattle.format.specs.declared.Kind.{Kind}
 use Rattle.format.specs.Bytes.{sum}
-use Rattle.format.specs.Items.{Verdict, fine, fault, ◌and_then◌}
+use Rattle.format.specs.Items.{fine, ◌and_then◌}
 use Rattle.format.specs.Mesh.{Needs, needs}
 use Rattle.format.specs.Bodies.{Part}
 use Rattle.format.specs.Rules.{judge, judged, mesh_of, skipped_of, details_of, parts_of}
 use Rattle.format.specs.Promises.{file_parts}
-use Rattle.validate_chunk.specs.declared.lengths.Length.{Length}
+use Rattle.wire.specs.declared.Refusal.{Refusal}
+use Rattle.wire.specs.Promises.{verdict_as}
 use Rattle.validate_chunk.specs.declared.lengths.Lengths.{Lengths}
 use Rattle.validate_chunk.specs.declared.chunk.Counted.{Counted}
 use Rattle.validate_chunk.specs.Promises.{counted_of, before_of}
 use Rattle.validate.specs.declared.counts.Totals.{Totals}
 use Rattle.validate.specs.declared.counts.Seen.{Seen}
-use Rattle.validate.specs.declared.chunks.StepResult.{StepResult}
-use Rattle.validate.specs.declared.chunks.ChunksResult.{ChunksResult}
-use Rattle.validate.specs.declared.FileResult.{FileResult}
 
 -- ---- what was seen, and one part more
 
 abbrev pub lengths_after : Lengths → Counted → Lengths
-lengths_after l (Counted.Points n) = record { points = Length.Of n; polygons = l.polygons; names = l.names }
-lengths_after l (Counted.Names n b) = record { points = l.points; polygons = l.polygons; names = Length.Of n }
-lengths_after l (Counted.Polygons z) = record { points = l.points; polygons = Length.Of z.polygons; names = l.names }
-lengths_after l Counted.Layer = record { points = Length.Missing; polygons = Length.Missing; names = l.names }
+lengths_after l (Counted.Points n) = record { points = Some n; polygons = l.polygons; names = l.names }
+lengths_after l (Counted.Names z) = record { points = l.points; polygons = l.polygons; names = Some z.count }
+lengths_after l (Counted.Polygons z) = record { points = l.points; polygons = Some z.polygons; names = l.names }
+lengths_after l Counted.Layer = record { points = None; polygons = None; names = l.names }
 lengths_after l Counted.Nothing = l
 lengths_after l Counted.Skipped = l
 
@@ -37,12 +35,12 @@ totals_with t (Counted.Points n) = record {
   skipped = t.skipped;
   details = t.details;
 }
-totals_with t (Counted.Names n b) = record {
+totals_with t (Counted.Names z) = record {
   points = t.points;
   polygons = t.polygons;
   vertices = t.vertices;
-  names = t.names + n;
-  name_bytes = t.name_bytes + b;
+  names = t.names + z.count;
+  name_bytes = t.name_bytes + z.bytes;
   skipped = t.skipped;
   details = t.details;
 }
@@ -76,30 +74,26 @@ all_of t = t.points + t.polygons + t.vertices + t.names + t.name_bytes + t.skipp
 
 abbrev pub weight : Counted → ℕ
 weight (Counted.Points n) = n
-weight (Counted.Names n b) = n + b
+weight (Counted.Names z) = z.count + z.bytes
 weight (Counted.Polygons z) = z.polygons + z.vertices + z.details
 weight Counted.Layer = 0
 weight Counted.Nothing = 0
 weight Counted.Skipped = 1
 
-abbrev pub step_result_as : StepResult → Verdict Seen
-step_result_as (StepResult.Go later) = fine later
-step_result_as (StepResult.Stop f) = fault f.why f.at
-
-abbrev pub Grown : ℕ → StepResult → Type 0
-Grown most (StepResult.Go later) = all_of later.totals ≤ most
-Grown most (StepResult.Stop f) = Unit
+abbrev pub Grown : ℕ → Result Seen Refusal → Type 0
+Grown most (Ok later) = all_of later.totals ≤ most
+Grown most (Err f) = Unit
 
 -- a chunk after what was seen: it adds no more than it has bytes
-pub record OneMoreSeen (kind : Kind) (tag : ℕ) (seen : Seen) (s : List ℕ) (answer : StepResult) : Type 0 where
-  pub is : step_result_as answer ≡ (judge kind (before_of seen.lengths) tag (drop 8 s) and_then λ part. fine (seen_with seen (counted_of part)))
+pub record OneMoreSeen (kind : Kind) (tag : ℕ) (seen : Seen) (s : List ℕ) (answer : Result Seen Refusal) : Type 0 where
+  pub is : verdict_as answer ≡ (judge kind (before_of seen.lengths) tag (drop 8 s) and_then λ part. fine (seen_with seen (counted_of part)))
   pub grown : Grown (all_of seen.totals + length s) answer
 
 -- ---- the file
 
 abbrev pub nothing_seen : Seen
 nothing_seen = record {
-  lengths = record { points = Length.Missing; polygons = Length.Missing; names = Length.Missing };
+  lengths = record { points = None; polygons = None; names = None };
   totals = record { points = 0; polygons = 0; vertices = 0; names = 0; name_bytes = 0; skipped = 0; details = 0 };
 }
 
@@ -120,18 +114,10 @@ totals_of kind parts =
 abbrev pub needs_in : Totals → Needs
 needs_in t = record { points = t.points; polygons = t.polygons; vertices = t.vertices; names = t.names; name_bytes = t.name_bytes }
 
-abbrev pub chunks_as : ChunksResult → Verdict Totals
-chunks_as (ChunksResult.Counts t) = fine t
-chunks_as (ChunksResult.Refused f) = fault f.why f.at
-
 -- the chunks of a file, judged in file order
-pub record ChunksJudged (kind : Kind) (file : List ℕ) (answer : ChunksResult) : Type 0 where
-  pub is : chunks_as answer ≡ (file_parts kind file and_then λ parts. fine (totals_of kind parts))
-
-abbrev pub file_as : FileResult → Verdict (Kind × Totals)
-file_as (FileResult.Counts kind t) = fine (kind, t)
-file_as (FileResult.Refused f) = fault f.why f.at
+pub record ChunksJudged (kind : Kind) (file : List ℕ) (answer : Result Totals Refusal) : Type 0 where
+  pub is : verdict_as answer ≡ (file_parts kind file and_then λ parts. fine (totals_of kind parts))
 
 -- the whole of a file, judged
-pub record FileJudged (file : List ℕ) (answer : FileResult) : Type 0 where
-  pub is : file_as answer ≡ (judged file and_then λ f. fine (f.0, totals_of f.0 (parts_of f.1)))
+pub record FileJudged (file : List ℕ) (answer : Result (Kind × Totals) Refusal) : Type 0 where
+  pub is : verdict_as answer ≡ (judged file and_then λ f. fine (f.0, totals_of f.0 (parts_of f.1)))

@@ -3,37 +3,20 @@ ghost use Rattle.std.specs.Prelude.{◌≡◌, ◌+◌, ◌<◌, ◌≤◌, ◌^
 ghost use Rattle.format.specs.Refusals.{place_of};
 ghost use Rattle.validate.specs.Promises.{all_of, OneMoreSeen, ChunksJudged};
 
-use crate::counts::{Seen, Totals, nothing_seen, seen_with};
-use format::{Fault, Kind};
+use crate::counts::{Seen, Totals};
+use format::Kind;
 use headers::{Header, chunk_at};
-use validate_chunk::chunk::{Judgement, judge};
+use validate_chunk::chunk::judge;
 use wire::Refusal;
 use wire::cursor::Cursor;
 
-// What was seen with one chunk more, or that chunk's fault.
-#[derive(Clone, Copy)]
-pub enum StepResult {
-    Go(Seen),
-    Stop(Refusal),
-}
-
-// A chunk adds no more than it has bytes, so that no sum of the file's counts passes the file's length.
-fn step(s: &[u8], kind: Kind, tag: u32, seen: Seen) -> StepResult
+// What was seen with one chunk more, or that chunk's fault. A chunk adds no more than it has bytes, so that no sum of the file's counts passes the file's length.
+fn step(s: &[u8], kind: Kind, tag: u32, seen: Seen) -> Result<Seen, Refusal>
     requires { (8 ≤ length s.now) × (all_of seen.totals + length s.now < 2 ^ 64) }
     ensures { OneMoreSeen kind tag seen s.now result }
 {
-    let lengths = seen.lengths;
-    match judge(s, kind, tag, lengths) {
-        Judgement::Stop(f) => StepResult::Stop(f),
-        Judgement::Fine(part) => StepResult::Go(seen_with(seen, part)),
-    }
-}
-
-// The first fault with its place in the file, or the counts of its mesh.
-#[derive(Clone, Copy)]
-pub enum ChunksResult {
-    Refused(Refusal),
-    Counts(Totals),
+    let part = judge(s, kind, tag, seen.lengths)?;
+    Ok(seen.with(part))
 }
 
 // The place in the file of a fault that lies so many bytes after its chunk's tag.
@@ -44,33 +27,27 @@ fn place(chunk: usize, at: usize) -> usize
     at + chunk
 }
 
-// Chunks in file order, so that the first fault is the one told.
-pub fn validate_chunks(file: &[u8], kind: Kind) -> ChunksResult
+// Chunks in file order, so that the first fault is the one told, with its place in the file.
+pub fn validate_chunks(file: &[u8], kind: Kind) -> Result<Totals, Refusal>
     ensures { ChunksJudged kind file.now result }
 {
     let mut at = 12;
-    let mut seen = nothing_seen();
+    let mut seen = Seen::default();
+    // A chunk's length is its own, so the place is moved on by hand.
     while at < file.len() {
-        let Header::Got { tag, end, next } = chunk_at(file, Cursor { at }) else {
-            return ChunksResult::Refused(Refusal {
-                why: Fault::BadHeader,
-                at,
-            });
-        };
+        let Header { tag, end, next } = chunk_at(file, Cursor { at })?;
         match step(&file[at..end], kind, tag, seen) {
-            StepResult::Stop(f) => {
-                let why = f.why;
-                return ChunksResult::Refused(Refusal {
-                    why,
+            Err(f) => {
+                return Err(Refusal {
+                    why: f.why,
                     at: place(at, f.at),
                 });
             }
-            StepResult::Go(later) => {
+            Ok(later) => {
                 seen = later;
                 at = next.at;
             }
         }
     }
-    let totals = seen.totals;
-    ChunksResult::Counts(totals)
+    Ok(seen.totals)
 }

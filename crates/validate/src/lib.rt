@@ -4,31 +4,26 @@
 
 ghost use Rattle.validate.specs.Promises.{FileJudged};
 
-use crate::chunks::{ChunksResult, validate_chunks};
+use crate::chunks::validate_chunks;
 use crate::counts::Totals;
 use format::Kind;
-use validate_form::form::{FormResult, header};
+use validate_form::form::header;
 use wire::Refusal;
 
 pub mod chunks;
 pub mod counts;
 
-// The first refusal with its place in the file, or what the tables need.
-#[derive(Clone, Copy)]
-pub enum FileResult {
-    Refused(Refusal),
-    Counts { kind: Kind, totals: Totals },
-}
-
-// The header comes first: it says by which kind of file the chunks are judged.
-pub fn validate(file: &[u8]) -> FileResult
+// The header comes first: it says by which kind of file the chunks are judged. The answer is that kind and what the tables need, or the first refusal with its
+// place in the file.
+pub fn validate(file: &[u8]) -> Result<(Kind, Totals), Refusal>
     ensures { FileJudged file.now result }
 {
-    match header(file) {
-        FormResult::Stop(why) => FileResult::Refused(Refusal { why, at: 0 }),
-        FormResult::Kind(kind) => match validate_chunks(file, kind) {
-            ChunksResult::Refused(f) => FileResult::Refused(f),
-            ChunksResult::Counts(totals) => FileResult::Counts { kind, totals },
-        },
-    }
+    let kind = match header(file) {
+        Ok(kind) => kind,
+        Err(why) => {
+            return Err(Refusal { why, at: 0 });
+        }
+    };
+    let totals = validate_chunks(file, kind)?;
+    Ok((kind, totals))
 }

@@ -1,5 +1,5 @@
 -- A chunk's counts from its body's: each body makes one sort of part, and of that part its function keeps what it adds to the counts.
-use Rattle.std.specs.Prelude.{if◌then◌else◌}
+use Rattle.std.specs.Prelude.{Option, Some, None, unwrap_or, Ok, Err, if◌then◌else◌}
 use mathlib.Core.Path.{◌≡◌, refl, ap, ◌∙◌}
 use mathlib.Core.List.{List}
 use mathlib.Core.Bool.{Bool, true, false}
@@ -11,13 +11,13 @@ use Rattle.format.specs.Bytes.{empty}
 use Rattle.format.specs.Items.{Verdict, fine, fault, Got, Reader, ◌and_then◌, whole}
 use Rattle.format.specs.Promises.{nothing, Judged}
 use Rattle.format.specs.Bodies.{Part, skipped_chunk, points_body, names_body, layer_body, faces_body, patches_body, polygons_body, tagging_body, surface_body}
-use Rattle.format.specs.Rules.{added, when◌read◌}
+use Rattle.format.specs.Rules.{added, count, when◌read◌}
 use Rattle.format.proofs.PartByTag.{Makes, makes_points, makes_names, makes_faces, makes_patches, makes_polygons, makes_tagging, makes_surface, makes_layer}
+use Rattle.wire.specs.declared.Refusal.{Refusal}
 use Rattle.validate_lists.specs.Promises.{point_count, name_sizes}
 use Rattle.validate_polygons.specs.Promises.{sizes_of}
 use Rattle.validate_chunk.specs.declared.chunk.Counted.{Counted}
-use Rattle.validate_chunk.specs.declared.chunk.Judgement.{Judgement}
-use Rattle.validate_chunk.specs.Promises.{counted_of, judged_as, CountsOf}
+use Rattle.validate_chunk.specs.Promises.{counted_of, length_as, out_of_order, CountsOf}
 
 -- what a body adds to the counts is f of the part that its function keeps
 pub record Adds {B : Type 0} (f : B → Counted) (h : Part → B) (r : Reader Part) : Type 0 where
@@ -27,7 +27,7 @@ pub adds_points : (kind : Kind) → Adds Counted.Points point_count (points_body
 unfolding counted_of added
 adds_points kind = record { each = makes_points _ kind (λ ps. refl) }
 
-pub adds_names : Adds (λ z. Counted.Names z.0 z.1) name_sizes names_body
+pub adds_names : Adds (λ z. Counted.Names (record { count = z.0; bytes = z.1 })) name_sizes names_body
 unfolding counted_of added
 adds_names = record { each = makes_names _ (λ ns. refl) }
 
@@ -56,6 +56,11 @@ pub adds_layer : Adds (λ z. Counted.Layer) nothing layer_body
 unfolding counted_of
 adds_layer = record { each = makes_layer _ refl }
 
+-- a list that is missing has no entries
+pub none_missing : (list : Option ℕ) → unwrap_or list 0 ≡ count (length_as list)
+none_missing None = refl
+none_missing (Some n) = refl
+
 -- ---- the chunk
 
 module _ {B : Type 0} (f : B → Counted) (h : Part → B) {r : Reader Part} (a : Adds f h r) where
@@ -73,16 +78,20 @@ module _ {B : Type 0} (f : B → Counted) (h : Part → B) {r : Reader Part} (a 
       by (fine g) e = used g (a.each.each 8 b g e) (empty g.left)
       by (fault why p) e = refl
 
--- what must come earlier is there
-pub in_order : {B : Type 0} {f : B → Counted} {h : Part → B} {r : Reader Part} → Adds f h r → {s : List ℕ} {v : Verdict B} {answer : Judgement} → Judged r h s v
-    → judged_as answer ≡ (v and_then λ y. fine (f y)) → CountsOf (when true read r) s answer
-unfolding when◌read◌
-in_order {f} {h} a {s} j says = record { is = says ∙ ap (λ v. v and_then λ y. fine (f y)) j.is ∙ counts_in f h a (drop 8 s) }
+-- what must come earlier is there, and the body is fine or at fault
+module _ {B : Type 0} {f : B → Counted} {h : Part → B} {r : Reader Part} (a : Adds f h r) {s : List ℕ} where
+  pub in_order : {y : B} → Judged r h s (fine y) → CountsOf (when true read r) s (Ok (f y))
+  unfolding when◌read◌ ◌and_then◌
+  in_order j = record { is = ap (λ v. v and_then λ y. fine (f y)) j.is ∙ counts_in f h a (drop 8 s) }
 
-pub too_early : (r : Reader Part) {s : List ℕ} {answer : Judgement} → judged_as answer ≡ fault OutOfOrder 0 → CountsOf (when false read r) s answer
+  pub at_fault : {x : Refusal} → Judged r h s (fault x.why x.at) → CountsOf (when true read r) s (Err x)
+  unfolding when◌read◌ ◌and_then◌
+  at_fault j = record { is = ap (λ v. v and_then λ y. fine (f y)) j.is ∙ counts_in f h a (drop 8 s) }
+
+pub too_early : (r : Reader Part) {s : List ℕ} → CountsOf (when false read r) s (Err out_of_order)
 unfolding when◌read◌ ◌and_then◌
-too_early r says = record { is = says }
+too_early r = record { is = refl }
 
-pub unlisted : {s : List ℕ} → CountsOf (λ body. fine skipped_chunk) s (Judgement.Fine Counted.Skipped)
+pub unlisted : {s : List ℕ} → CountsOf (λ body. fine skipped_chunk) s (Ok Counted.Skipped)
 unfolding ◌and_then◌ counted_of
 unlisted = record { is = refl }

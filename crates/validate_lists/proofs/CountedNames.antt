@@ -1,4 +1,5 @@
 -- The names of a body, counted one after another: those before the place are a chain of strings, and the counts are theirs.
+use Rattle.std.specs.Prelude.{Ok, Err}
 use mathlib.Core.Path.{◌≡◌, sym, ◌∙◌}
 use mathlib.Core.List.{List, [], ◌∷◌, ◌++◌, map}
 use mathlib.Core.Bool.{true, false}
@@ -8,7 +9,7 @@ use native.Mathlib.Nat.{add-zero}
 use lib.ListN.{length, take, drop, length-drop, drop_of_length-le}
 use lib.Seq.{drop-cons}
 use Rattle.format.specs.declared.Fault.{Fault}
-use Rattle.format.specs.declared.Fault.TheVariants.{StringOpen, BadName}
+use Rattle.format.specs.declared.Fault.TheVariants.{BadName}
 use Rattle.format.specs.Bytes.{sum}
 use Rattle.format.specs.Items.{fine, fault, ◌and_then◌, ◌>>=◌, give}
 use Rattle.format.specs.Mesh.{Name}
@@ -16,8 +17,8 @@ use Rattle.format.specs.Bodies.{name_list, name, names_after, names_body}
 use Rattle.format.specs.Rules.{added}
 use Rattle.format.specs.Promises.{keep, itself, got, Says, Judged}
 use Rattle.format.proofs.ReaderSteps.{exactly, stopped, good, bad, cut, keep_keep, keep_same, used_up, faulty}
+use Rattle.wire.specs.declared.Refusal.{Refusal}
 use Rattle.wire.specs.declared.cursor.Cursor.{Cursor}
-use Rattle.wire.specs.declared.cursor.Text.{Text}
 use Rattle.wire.specs.Promises.{TextAt}
 use Rattle.wire.proofs.Items.{inside}
 use Rattle.validate_lists.specs.Promises.{Chain, done, NewName, name_sizes}
@@ -74,11 +75,11 @@ module _ {s : List ℕ} {at c b : ℕ} (w : NamesCounted s at c b) where
     unfolding ◌>>=◌ ◌and_then◌
     stop k = faulty (record { is = sym (w.rest ∙ rw (burnt w.fuel w.enough, stopped k)) })
 
-    pub unended : TextAt s at Text.Open → Judged names_body name_sizes s (fault StringOpen at)
+    pub unended : {f : Refusal} → TextAt s at (Err f) → Judged names_body name_sizes s (fault f.why f.at)
     unfolding name
     unended r = stop (cut _ _ r.reads.says)
 
-    module _ {n : ℕ} {next : Cursor} (r : TextAt s at (Text.Got n next)) where
+    module _ {n : ℕ} {next : Cursor} (r : TextAt s at (Ok (n, next))) where
       pub refused : NewName s at n false → Judged names_body name_sizes s (fault BadName at)
       unfolding name
       refused new = stop (bad _ _ r.reads.says (sym (new.is w.earlier w.chain)))

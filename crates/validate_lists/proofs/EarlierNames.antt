@@ -1,5 +1,5 @@
 -- Names are not kept: the earlier ones are read again, from the body's first on, wherever a later one is compared with them.
-use Rattle.std.specs.Prelude.{if◌then◌else◌}
+use Rattle.std.specs.Prelude.{if◌then◌else◌, Ok, Err}
 use mathlib.Core.Path.{◌≡◌, refl, sym, ap, ◌∙◌}
 use mathlib.Core.List.{List, [], ◌∷◌, ◌++◌}
 use mathlib.Core.Bool.{Bool, true, false, not}
@@ -13,8 +13,8 @@ use Rattle.format.specs.Mesh.{Name}
 use Rattle.format.specs.Promises.{itself, got, Says}
 use Rattle.format.proofs.Facts.{impossible}
 use Rattle.format.proofs.ReaderSteps.{exactly}
+use Rattle.wire.specs.declared.Refusal.{Refusal}
 use Rattle.wire.specs.declared.cursor.Cursor.{Cursor}
-use Rattle.wire.specs.declared.cursor.Text.{Text}
 use Rattle.wire.specs.Promises.{TextAt}
 use Rattle.validate_lists.specs.Promises.{Chain, done, link, Amongst, NewName}
 
@@ -66,12 +66,12 @@ module _ {s : List ℕ} {to n p : ℕ} (w : LeftToCompare s to n p) where
   not_there h = record { is = λ ns chain. let l = w.each ns chain in sym (l.so ∙ ap (amongst (take n (drop to s))) (empty l.chain h)) }
 
   module _ (some : p < to) where
-    pub never : TextAt s p Text.Open → Amongst s to n false
+    pub never : {f : Refusal} → TextAt s p (Err f) → Amongst s to n false
     never r = record {
       is = λ ns chain. let l = linked (w.each ns chain).chain some in impossible (cc (exactly l.read, exactly r.reads.says));
     }
 
-    module _ {m : ℕ} {next : Cursor} (r : TextAt s p (Text.Got m next)) where
+    module _ {m : ℕ} {next : Cursor} (r : TextAt s p (Ok (m, next))) where
       -- the first of those that are left is the name at p
       record First (ns : List Name) : Type 0 where
         more : List Name

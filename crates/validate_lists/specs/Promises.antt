@@ -1,28 +1,23 @@
 -- What the answers on points and on names say, in the specification's words. `s` is the lent slice, and `at` the place that was read at.
-use Rattle.std.specs.Prelude.{ℕ, ◌+◌, ◌<◌, ◌≤◌, ◌≡◌, Bool, List, [], ◌∷◌, map, length, take, drop, ltb, if◌then◌else◌}
-use Rattle.format.specs.declared.Fault.TheVariants.{NotFinite}
+use Rattle.std.specs.Prelude.{ℕ, ◌+◌, ◌<◌, ◌≤◌, ◌≡◌, Bool, List, [], ◌∷◌, map, length, take, drop, Result, Ok, Err}
 use Rattle.format.specs.Bytes.{sum, amongst}
-use Rattle.format.specs.Items.{Verdict, fine, fault, string}
+use Rattle.format.specs.Items.{Verdict, fine, fault, Got, string}
 use Rattle.format.specs.Mesh.{Name}
-use Rattle.format.specs.Bodies.{Part, point, new_name}
+use Rattle.format.specs.Bodies.{Part, new_name}
 use Rattle.format.specs.Rules.{points_of, names_of}
-use Rattle.format.specs.Promises.{got, itself, nothing, Says}
-use Rattle.validate_lists.specs.declared.points.Points.{Points}
-use Rattle.validate_lists.specs.declared.names.Names.{Names}
+use Rattle.format.specs.Promises.{got, itself, Says}
+use Rattle.wire.specs.declared.Refusal.{Refusal}
+use Rattle.validate_lists.specs.declared.names.NameSizes.{NameSizes}
 
 -- ---- points
 
 abbrev pub point_count : Part → ℕ
 point_count part = length (points_of part)
 
-abbrev pub points_as : Points → Verdict ℕ
-points_as (Points.Got n) = fine n
-points_as (Points.Stop f) = fault f.why f.at
-
--- the point at a place, by the place r up to which its floats are finite
-pub record PointAt (s : List ℕ) (at r : ℕ) : Type 0 where
-  pub says : Says point nothing s at (if ltb r (at + 12) then fault NotFinite r else got s tt (at + 12))
-  pub near : r ≤ at + 12
+-- nothing is kept of what is fine up to a place, or the first fault
+abbrev pub fine_to : List ℕ → ℕ → Result (Unit {0}) Refusal → Verdict (Got (Unit {0}))
+fine_to s next (Ok u) = got s u next
+fine_to s next (Err f) = fault f.why f.at
 
 -- ---- names
 
@@ -30,9 +25,9 @@ pub record PointAt (s : List ℕ) (at r : ℕ) : Type 0 where
 abbrev pub name_sizes : Part → ℕ × ℕ
 name_sizes part = (length (names_of part), sum (map length (names_of part)))
 
-abbrev pub names_as : Names → Verdict (ℕ × ℕ)
-names_as (Names.Got n b) = fine (n, b)
-names_as (Names.Stop f) = fault f.why f.at
+abbrev pub names_as : Result NameSizes Refusal → Verdict (ℕ × ℕ)
+names_as (Ok z) = fine (z.count, z.bytes)
+names_as (Err f) = fault f.why f.at
 
 -- the names that stand from one place to another
 pub data Chain (s : List ℕ) (to : ℕ) : ℕ → List Name → Type 0 where

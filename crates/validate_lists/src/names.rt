@@ -5,14 +5,13 @@ ghost use Rattle.validate_lists.specs.Promises.{NameAt, Amongst, NewName, name_s
 
 use format::Fault;
 use wire::Refusal;
-use wire::cursor::{Cursor, Text};
-use words::same_bytes;
+use wire::cursor::Cursor;
 
 // How many names there are, and how many bytes they have.
-#[derive(Clone, Copy)]
-pub enum Names {
-    Got { count: usize, bytes: usize },
-    Stop(Refusal),
+#[derive(Clone, Copy, Debug, PartialEq, Eq)]
+pub struct NameSizes {
+    pub count: usize,
+    pub bytes: usize,
 }
 
 // Whether the name of n bytes at a place is one of those before it. No list of names is kept, so each is read again.
@@ -20,15 +19,16 @@ fn earlier(s: &[u8], at: usize, n: usize) -> bool
     requires { NameAt s.now at n }
     ensures { Amongst s.now at n result }
 {
-    let end = at + n;
+    let name = &s[at..at + n];
     let mut p = 8;
+    // A name's length is its own, so the place is moved on by hand.
     while p < at {
         let c = Cursor { at: p };
-        let Text::Got(m, next) = c.string(s) else {
+        let Ok((m, next)) = c.string(s) else {
             return false;
         };
         let last = p + m;
-        if same_bytes(&s[at..end], &s[p..last]) {
+        if name == &s[p..last] {
             return true;
         }
         p = next.at;
@@ -48,22 +48,18 @@ fn new_name(s: &[u8], at: usize, n: usize) -> bool
 }
 
 // A string that is not ended is one fault, and a name that is too long or not new is another, both at the name.
-pub fn names_body(s: &[u8]) -> Names
+pub fn names_body(s: &[u8]) -> Result<NameSizes, Refusal>
     ensures { Judged names_body name_sizes s.now (names_as result) }
 {
     let mut at = 8;
     let mut count = 0;
     let mut bytes = 0;
+    // A name's length is its own, so the place is moved on by hand.
     while at < s.len() {
         let c = Cursor { at };
-        let Text::Got(n, next) = c.string(s) else {
-            return Names::Stop(Refusal {
-                why: Fault::StringOpen,
-                at,
-            });
-        };
+        let (n, next) = c.string(s)?;
         if !new_name(s, at, n) {
-            return Names::Stop(Refusal {
+            return Err(Refusal {
                 why: Fault::BadName,
                 at,
             });
@@ -72,5 +68,5 @@ pub fn names_body(s: &[u8]) -> Names
         bytes += n;
         at = next.at;
     }
-    Names::Got { count, bytes }
+    Ok(NameSizes { count, bytes })
 }

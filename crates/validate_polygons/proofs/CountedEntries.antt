@@ -13,8 +13,7 @@ use Rattle.format.specs.Rules.{added}
 use Rattle.format.specs.Promises.{keep, got, Keeps, JudgedAt, polygons_listed}
 use Rattle.format.proofs.ReaderSteps.{used_up, faulty}
 use Rattle.format.proofs.Entries.{ManyLoop, many_begin, many_turn, many_stop, many_end}
-use Rattle.polygon_layouts.specs.declared.Layout.{Layout}
-use Rattle.polygon_layouts.specs.Layouts.{EntryOf, entry_of, part_of, entries_of}
+use Rattle.polygon_layouts.specs.Layouts.{Layout, EntryOf, entry_of, part_of, entries_of}
 use Rattle.validate_polygons.specs.declared.entries.Sizes.{Sizes}
 use Rattle.validate_polygons.specs.Promises.{entry_sizes, entry_bytes, sizes_of}
 

@@ -2,15 +2,17 @@
 ghost use Rattle.std.specs.Prelude.{◌≡◌};
 ghost use Rattle.format.specs.Bodies.{polygon_type, polygons_body};
 ghost use Rattle.format.specs.Promises.{Judged};
-ghost use Rattle.validate_polygons.specs.Promises.{PolygonAt, sizes_of, polygons_as};
+ghost use Rattle.polygon_layouts.specs.Layouts.{Layout};
+ghost use Rattle.wire.specs.Promises.{verdict_as};
+ghost use Rattle.validate_polygons.specs.Promises.{sizes_of};
 
-use crate::entries::{Entry, Polygons, entries};
+use crate::entries::{Entry, Sizes, Validated, entries};
 use format::Fault;
 use format::tags::{FACE, PTCH};
-use polygon_layouts::{Layout, polygon_kind};
+use polygon_layouts::{Polygons, polygon_kind};
 use polygon_vertices::vertices::lwo2_vertices;
-use wire::cursor::{Cursor, Number};
-use wire::{Refusal, Run};
+use wire::Refusal;
+use wire::cursor::Cursor;
 
 // The types that are read.
 fn polygon_type(t: u32) -> bool
@@ -19,36 +21,34 @@ fn polygon_type(t: u32) -> bool
     (t == FACE) | (t == PTCH)
 }
 
-// A polygon of any kind: it has no surface number and no details of its own.
-pub fn polygon(s: &[u8], c: Cursor, points: usize) -> Entry
-    ensures { PolygonAt points s.now c.at result }
-{
-    match lwo2_vertices(s, c, points) {
-        Run::Stop(f) => Entry::Stop(f),
-        Run::Got(vertices, next) => Entry::Got {
+impl Validated for Polygons {
+    ghost layout = { λ p. Layout.Polygons p.kind };
+
+    // A polygon of any kind: it has no surface number and no details of its own.
+    fn entry(&self, s: &[u8], c: Cursor, points: usize, names: usize) -> Result<Entry, Refusal> {
+        let (vertices, next) = lwo2_vertices(s, c, points)?;
+        Ok(Entry {
             vertices,
             details: 0,
             next,
-        },
+        })
     }
 }
 
 // The type comes before the polygons, which are all of its kind.
-pub fn polygons_body(s: &[u8], points: usize) -> Polygons
-    ensures { Judged (polygons_body points) sizes_of s.now (polygons_as result) }
+pub fn polygons_body(s: &[u8], points: usize) -> Result<Sizes, Refusal>
+    ensures { Judged (polygons_body points) sizes_of s.now (verdict_as result) }
 {
     let start = Cursor { at: 8 };
-    let Number::Got(t, first) = start.u4(s) else {
-        return Polygons::Stop(Refusal {
-            why: Fault::ItemCut,
-            at: 8,
-        });
-    };
+    let (t, first) = start.u4(s)?;
     if !polygon_type(t) {
-        return Polygons::Stop(Refusal {
+        return Err(Refusal {
             why: Fault::PolygonType,
             at: 8,
         });
     }
-    entries(s, first, Layout::Polygons(polygon_kind(t)), points, 0)
+    let layout = Polygons {
+        kind: polygon_kind(t),
+    };
+    entries(s, first, &layout, points, 0)
 }

@@ -4,6 +4,7 @@ use mathlib.Core.Bool.{Bool, true, false}
 use mathlib.Core.List.{List}
 use Prim.Native.Nat.{ℕ, ◌+◌, ◌-◌, ◌≤◌, ◌<◌}
 use native.Mathlib.Omega.{arith}
+use Rattle.std.specs.Prelude.{Ok}
 use lib.Dec.{ltb}
 use lib.ListN.{length, get_or, take, drop, length-take, length-drop}
 use mir.Syntax.{w8}
@@ -16,7 +17,6 @@ use Rattle.format.proofs.ReaderSteps.{exactly}
 use Rattle.format.proofs.Places.{uint_cut, uint_whole, two_is}
 use Rattle.format.proofs.Verdicts.{same_fine}
 use Rattle.wire.specs.declared.cursor.Cursor.{Cursor}
-use Rattle.wire.specs.declared.cursor.Text.{Text}
 use Rattle.wire.specs.Promises.{TextAt}
 use Rattle.wire.proofs.ReadAgain.{never}
 
@@ -32,7 +32,7 @@ u2_small {s} {at} {v} {next} bytes w = by (ltb (length s - at) 2) refl
         omega (arith, is, two_is s at there, (bytes at).fits, (bytes (at + 1)).fits)
 
 -- a name and its terminator stand in the slice
-pub inside : {s : List ℕ} {at n : ℕ} {next : Cursor} → TextAt s at (Text.Got n next)
+pub inside : {s : List ℕ} {at n : ℕ} {next : Cursor} → TextAt s at (Ok (n, next))
     → (at + n < next.at) × (next.at ≤ length s) × (length (take n (drop at s)) ≡ n)
 inside {s} {at} {n} r =
     let k = length-take n (drop at s) in

@@ -1,73 +1,25 @@
 // The items of a body, read at a place. A cursor may stand anywhere: beyond the end there is nothing to read.
-ghost use Rattle.std.specs.Prelude.{◌≡◌, ◌+◌, ◌-◌, ◌≤◌, ◌<◌, ltb, length, get_or, take, drop};
+ghost use Rattle.std.specs.Prelude.{◌≡◌, ◌==◌, position, ◌+◌, ◌-◌, ◌≤◌, ◌<◌, ◌^◌, length, get_or, take, drop};
 ghost use Rattle.format.specs.Bytes.{signed, number};
-ghost use Rattle.format.specs.Items.{u2, u4, long_form, vx, float, to_zero};
-ghost use Rattle.wire.specs.Promises.{signed_surface_of, fault_of, NumberAt, I2At, SignedSurfaceAt, ItemAt, TextAt};
+ghost use Rattle.format.specs.Items.{uint, u2, u4, i2, long_form, vx, float};
+ghost use Rattle.wire.specs.Promises.{signed_surface_of, AfterAt, SignedSurfaceAt, ItemAt, TextAt};
 
+use crate::{Read, Refusal};
 use format::{FIRST_LONG_INDEX, Fault};
 use words::is_finite;
 
-#[derive(Clone, Copy)]
+// A place alone. The slice is lent beside it and not held in it: else each contract and each loop would have to say once more that the cursor after an item
+// stands in the same slice.
+#[derive(Clone, Copy, Debug, PartialEq, Eq)]
 pub struct Cursor {
     pub at: usize,
 }
 
-// U2 or U4: the number and the moved cursor, or that the item is cut.
-#[derive(Clone, Copy)]
-pub enum Number {
-    Got(u32, Cursor),
-    Cut,
-}
-
-// I2
-#[derive(Clone, Copy)]
-pub enum I2Read {
-    Got(i16, Cursor),
-    Cut,
-}
-
 // A surface number of an LWOB file: its absolute value, and whether it was negative.
-#[derive(Clone, Copy)]
+#[derive(Clone, Copy, Debug, PartialEq, Eq)]
 pub struct SignedSurface {
     pub number: u32,
     pub negative: bool,
-}
-
-#[derive(Clone, Copy)]
-pub enum SignedSurfaceRead {
-    Got(SignedSurface, Cursor),
-    Cut,
-}
-
-// VX, or an item whose value is judged: the number and the moved cursor, or the fault, which is at the cursor that it was read by.
-#[derive(Clone, Copy)]
-pub enum Item {
-    Got(u32, Cursor),
-    Stop(Fault),
-}
-
-// A string: how long the name is, which starts at the cursor that it was read by.
-#[derive(Clone, Copy)]
-pub enum Text {
-    Got(usize, Cursor),
-    Open,
-}
-
-// The fault of an item that was refused. A `let .. else` names what was got alone, so that the fault is asked for by this function.
-pub fn fault_of(read: Item) -> Fault
-    ensures { result ≡ fault_of read }
-{
-    match read {
-        Item::Got(_, _) => Fault::ItemCut,
-        Item::Stop(why) => why,
-    }
-}
-
-// A byte in the wider type, with its bound.
-fn wide(x: u8) -> u16
-    ensures { (result ≡ x) × (result < 256) }
-{
-    x as u16
 }
 
 // How many bytes there are from a place on: none from a place beyond the end.
@@ -77,16 +29,6 @@ pub fn left(s: &[u8], at: usize) -> usize
     if at < s.len() { s.len() - at } else { 0 }
 }
 
-// Whether an item of n bytes at a place is cut. The length is compared first, so that a loop over items does it once.
-fn is_cut(s: &[u8], at: usize, n: usize) -> bool
-    ensures { result ≡ ltb (length s.now) (at + n) }
-{
-    if s.len() < n {
-        return true;
-    }
-    s.len() - n < at
-}
-
 // The byte at a place, 0 beyond the end.
 fn byte(s: &[u8], at: usize) -> u8
     ensures { result ≡ get_or s.now at 0 }
@@ -94,22 +36,33 @@ fn byte(s: &[u8], at: usize) -> u8
     if at < s.len() { s[at] } else { 0 }
 }
 
-// The number of the two bytes at a place, the high one first.
-pub fn pair(s: &[u8], at: usize) -> u16
-    requires { at + 2 ≤ length s.now }
-    ensures { result ≡ number (take 2 (drop at s.now)) }
+// The number of the N bytes at a place, the high one first.
+pub fn number_at<const N: usize>(s: &[u8], at: usize) -> u32
+    requires { (N ≤ 4) × (at + N ≤ length s.now) }
+    ensures is { result ≡ number (take N (drop at s.now)) }
+    ensures fits { result < 256 ^ N }
 {
-    wide(s[at]) * 256 + wide(s[at + 1])
+    let mut n = 0;
+    for i in 0..N {
+        n = n * 256 + s[at + i] as u32;
+    }
+    n
 }
 
-// The number of the four bytes at a place, the high one first.
+// The number of four bytes.
 pub fn word(s: &[u8], at: usize) -> u32
     requires { at + 4 ≤ length s.now }
     ensures { result ≡ number (take 4 (drop at s.now)) }
 {
-    let high = pair(s, at) as u32;
-    let low = pair(s, at + 2) as u32;
-    high * 65536 + low
+    number_at::<4>(s, at)
+}
+
+// The number of two bytes, in a type of their size.
+pub fn pair(s: &[u8], at: usize) -> u16
+    requires { at + 2 ≤ length s.now }
+    ensures { result ≡ number (take 2 (drop at s.now)) }
+{
+    number_at::<2>(s, at) as u16
 }
 
 // The signed number that sixteen bits stand for.
@@ -141,124 +94,129 @@ fn signed_surface(z: i16) -> SignedSurface
     }
 }
 
-// The place of the first zero byte from a place on, or the end.
-fn terminator(s: &[u8], at: usize) -> usize
-    ensures { result ≡ at + to_zero (drop at s.now) }
+// The index of the first zero byte.
+fn first_zero(bytes: &[u8]) -> Option<usize>
+    ensures { result ≡ position (λ b. b == 0) bytes.now }
 {
-    let mut n = at;
-    let end = loop {
-        if s.len() <= n {
-            break n;
-        }
-        if s[n] == 0 {
-            break n;
-        }
-        n += 1;
-    };
-    end
+    bytes.iter().position(|b| *b == 0)
 }
 
 impl Cursor {
-    // Two bytes, the high one first.
-    pub fn u2(self, s: &[u8]) -> Number
-        ensures { NumberAt u2 2 s.now self.at result }
+    // The cursor after n bytes, or that the item which they are is cut. The length is compared first, so that a loop over items does it once.
+    fn after(self, s: &[u8], n: usize) -> Result<Self, Refusal>
+        ensures { AfterAt n s.now self.at result }
     {
         let at = self.at;
-        if is_cut(s, at, 2) {
-            return Number::Cut;
+        if s.len() < n || s.len() - n < at {
+            return Err(Refusal {
+                why: Fault::ItemCut,
+                at,
+            });
         }
-        Number::Got(pair(s, at) as u32, Cursor { at: at + 2 })
+        Ok(Self { at: at + n })
     }
 
-    // Four bytes, the high one first: a type, or the bits of a float.
-    pub fn u4(self, s: &[u8]) -> Number
-        ensures { NumberAt u4 4 s.now self.at result }
+    // A number of N bytes, the high one first.
+    fn uint<const N: usize>(self, s: &[u8]) -> Read<u32>
+        requires { (0 < N) × (N ≤ 4) }
+        ensures { ItemAt (uint N) N s.now self.at result }
     {
-        let at = self.at;
-        if is_cut(s, at, 4) {
-            return Number::Cut;
-        }
-        Number::Got(word(s, at), Cursor { at: at + 4 })
+        let next = self.after(s, N)?;
+        Ok((number_at::<N>(s, self.at), next))
+    }
+
+    // Two bytes.
+    pub fn u2(self, s: &[u8]) -> Read<u32>
+        ensures { ItemAt u2 2 s.now self.at result }
+    {
+        self.uint::<2>(s)
+    }
+
+    // Four bytes: a type, or the bits of a float.
+    pub fn u4(self, s: &[u8]) -> Read<u32>
+        ensures { ItemAt u4 4 s.now self.at result }
+    {
+        self.uint::<4>(s)
     }
 
     // Two bytes as a signed number.
-    pub fn i2(self, s: &[u8]) -> I2Read
-        ensures { I2At s.now self.at result }
+    pub fn i2(self, s: &[u8]) -> Read<i16>
+        ensures { ItemAt i2 2 s.now self.at result }
     {
-        let at = self.at;
-        if is_cut(s, at, 2) {
-            return I2Read::Cut;
-        }
-        I2Read::Got(signed16(pair(s, at)), Cursor { at: at + 2 })
+        let next = self.after(s, 2)?;
+        Ok((signed16(pair(s, self.at)), next))
     }
 
     // An I2 that is a surface number.
-    pub fn surface_number(self, s: &[u8]) -> SignedSurfaceRead
+    pub fn surface_number(self, s: &[u8]) -> Read<SignedSurface>
         ensures { SignedSurfaceAt s.now self.at result }
     {
-        let I2Read::Got(z, next) = self.i2(s) else {
-            return SignedSurfaceRead::Cut;
-        };
-        SignedSurfaceRead::Got(signed_surface(z), next)
+        let (z, next) = self.i2(s)?;
+        Ok((signed_surface(z), next))
     }
 
     // Four bytes, with the index in the low 24 bits. An index that two bytes hold is refused here.
-    fn long_index(self, s: &[u8]) -> Item
+    fn long_index(self, s: &[u8]) -> Read<u32>
         ensures { ItemAt long_form 4 s.now self.at result }
     {
-        let Number::Got(n, next) = self.u4(s) else {
-            return Item::Stop(Fault::ItemCut);
-        };
+        let at = self.at;
+        let (n, next) = self.u4(s)?;
         let index = n % 16777216;
         if index < FIRST_LONG_INDEX {
-            Item::Stop(Fault::LongIndex)
-        } else {
-            Item::Got(index, next)
+            return Err(Refusal {
+                why: Fault::LongIndex,
+                at,
+            });
         }
+        Ok((index, next))
     }
 
     // Where the first byte is 255 there are four bytes, and two otherwise.
-    pub fn vx(self, s: &[u8]) -> Item
+    pub fn vx(self, s: &[u8]) -> Read<u32>
         ensures { ItemAt vx 2 s.now self.at result }
     {
         if byte(s, self.at) == 255 {
-            return self.long_index(s);
+            self.long_index(s)
+        } else {
+            self.u2(s)
         }
-        let Number::Got(n, next) = self.u2(s) else {
-            return Item::Stop(Fault::ItemCut);
-        };
-        Item::Got(n, next)
     }
 
     // A coordinate or a level. Only one that is not cut is judged.
-    pub fn float(self, s: &[u8]) -> Item
+    pub fn float(self, s: &[u8]) -> Read<u32>
         ensures { ItemAt float 4 s.now self.at result }
     {
-        let Number::Got(bits, next) = self.u4(s) else {
-            return Item::Stop(Fault::ItemCut);
-        };
+        let at = self.at;
+        let (bits, next) = self.u4(s)?;
         if is_finite(bits) {
-            Item::Got(bits, next)
+            Ok((bits, next))
         } else {
-            Item::Stop(Fault::NotFinite)
+            Err(Refusal {
+                why: Fault::NotFinite,
+                at,
+            })
         }
     }
 
-    // A name, its terminator, and one more zero where the two together are odd. The name starts at the cursor.
-    pub fn string(self, s: &[u8]) -> Text
+    // How long the name is that starts here. A name, its terminator, and one more zero where the two together are odd.
+    pub fn string(self, s: &[u8]) -> Read<usize>
         ensures { TextAt s.now self.at result }
     {
         let at = self.at;
-        let n = terminator(s, at) - at;
+        let open = Refusal {
+            why: Fault::StringOpen,
+            at,
+        };
+        if s.len() < at {
+            return Err(open);
+        }
+        let Some(n) = first_zero(&s[at..]) else {
+            return Err(open);
+        };
         let size = n + 2 - n % 2;
-        if left(s, at) < size {
-            return Text::Open;
+        if left(s, at) < size || s[at + size - 1] != 0 {
+            return Err(open);
         }
-        let last = at + size - 1;
-        if s[last] == 0 {
-            Text::Got(n, Cursor { at: at + size })
-        } else {
-            Text::Open
-        }
+        Ok((n, Cursor { at: at + size }))
     }
 }

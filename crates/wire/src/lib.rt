@@ -5,31 +5,14 @@ use crate::cursor::Cursor;
 use format::Fault;
 
 pub mod cursor;
+pub mod index;
 
 // The first fault, and the place of the header, item or string at fault, counted from the chunk's tag.
-#[derive(Clone, Copy)]
+#[derive(Clone, Copy, Debug, PartialEq, Eq)]
 pub struct Refusal {
     pub why: Fault,
     pub at: usize,
 }
 
-// An entry of which nothing is kept: the moved cursor.
-#[derive(Clone, Copy)]
-pub enum Step {
-    At(Cursor),
-    Stop(Refusal),
-}
-
-// Entries of which their number is kept.
-#[derive(Clone, Copy)]
-pub enum Run {
-    Got(usize, Cursor),
-    Stop(Refusal),
-}
-
-// A body of which nothing is kept.
-#[derive(Clone, Copy)]
-pub enum Checked {
-    Fine,
-    Stop(Refusal),
-}
+// What is kept of an item or of entries, and the cursor after them.
+pub type Read<T> = Result<(T, Cursor), Refusal>;

@@ -22,7 +22,7 @@ use Rattle.mesh.proofs.Entries.{polygons_at}
 use Rattle.mesh.proofs.RunWalk as run_walk
 use Rattle.mesh.proofs.RunWalk.{RunWalk}
 use Rattle.output.specs.Outputs.{Wrote, chunks_bytes}
-use Rattle.write_runs.specs.Runs.{tagging_bytes, Indexed, RunLent}
+use Rattle.write_runs.specs.Runs.{tagging_bytes, RunLent}
 use Rattle.output.proofs.PutSoFar as bytes_put
 use Rattle.output.proofs.PutSoFar.{PutSoFar, NextPart}
 use Rattle.output.proofs.Parts.{in_two}
@@ -113,9 +113,6 @@ chunks_of rs = chunks_bytes (joined (map run_chunks rs))
 pub record RunsPut (ws vs t : List ℕ) (at : ℕ) (t' : List ℕ) (next entry first : ℕ) : Type 0 where
   pub small : all (λ v. ltb v (2 ^ 24)) vs ≡ true
   pub walk : RunWalk ws vs (λ rs. PutSoFar (chunks_of (runs (mesh_polygons ws vs))) (chunks_of rs) t at t' next) entry first
-
-pub begin : {ws vs t : List ℕ} {at : ℕ} → Indexed ws vs → at + length (chunks_of (runs (mesh_polygons ws vs))) ≤ length t → RunsPut ws vs t at t at 0 0
-begin lent fits = record { small = lent.small; walk = run_walk.begin lent.lent (bytes_put.begin fits) }
 
 module _ {ws vs t t' : List ℕ} {at next entry first : ℕ} (w : RunsPut ws vs t at t' next entry first) where
   pub end : length ws - entry < polygon_size → Wrote t at (chunks_of (runs (mesh_polygons ws vs))) t' next

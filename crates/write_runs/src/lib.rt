@@ -23,6 +23,7 @@ pub mod pairs;
 pub mod polygons;
 
 // The type of a POLS, by the kind of its polygons.
+// The kind is a number, as the word in the table, which the C interface hands out.
 fn type_of(kind: u32) -> u32
     ensures { bytes 4 result ≡ spelt (type_of kind) }
 {
@@ -34,7 +35,7 @@ fn put_pols(out: &mut [u8], at: usize, run: &[u32], vertices: &[u32]) -> usize
     requires { RunLent run.now vertices.now × (at + length (chunk_bytes 4 "POLS" (spelt (type_of (word 0 (entry_at polygon_size 0 run.now))) ++ joined (map polygon_bytes (mesh_polygons run.now vertices.now)))) ≤ length out.old) }
     ensures { Wrote out.old at (chunk_bytes 4 "POLS" (spelt (type_of (word 0 (entry_at polygon_size 0 run.now))) ++ joined (map polygon_bytes (mesh_polygons run.now vertices.now)))) out.new result }
 {
-    let first = put_u4(out, at + 8, type_of(kind(run, 0)));
+    let first = put_u4(out, at + 8, type_of(kind(run)));
     let end = put_polygons(out, first, run, vertices);
     close_chunk(out, at, POLS, end)
 }
@@ -64,6 +65,7 @@ fn put_run(out: &mut [u8], at: usize, run: &[u32], vertices: &[u32]) -> usize
 }
 
 // The longest runs of one kind, in the order of the table.
+// The polygons and their joined vertices are two of the caller's tables. A pair of them would be taken apart in each contract, so they stay side by side.
 pub fn put_runs(out: &mut [u8], at: usize, polygons: &[u32], vertices: &[u32]) -> usize
     requires { Indexed polygons.now vertices.now × (at + length (chunks_bytes (joined (map run_chunks (runs (mesh_polygons polygons.now vertices.now))))) ≤ length out.old) }
     ensures { Wrote out.old at (chunks_bytes (joined (map run_chunks (runs (mesh_polygons polygons.now vertices.now))))) out.new result }
@@ -71,6 +73,7 @@ pub fn put_runs(out: &mut [u8], at: usize, polygons: &[u32], vertices: &[u32]) -
     let mut next = at;
     let mut entry = 0;
     let mut first = 0;
+    // A run's length is its own, so the places in both tables are moved on by hand.
     while POLYGON_WORDS <= polygons.len() - entry {
         let end = run_end(polygons, entry);
         let last = first + vertex_count(&polygons[entry..end]);

@@ -8,7 +8,6 @@ ghost use Rattle.output.specs.Outputs.{Wrote};
 ghost use Rattle.mesh.specs.Polygons.{pair_of, pairs_from};
 
 use format::POLYGON_WORDS;
-use mesh::columns::word_at;
 use output::items::{put_u2, put_vx};
 
 // The pair of polygon i, or nothing where its surface number, or its part name, is 0. Tags count from 0.
@@ -28,12 +27,10 @@ pub fn no_pairs(run: &[u32], index: usize) -> bool
     requires { index < polygon_size }
     ensures { result ≡ all (λ n. eqb n 0) (column polygon_size index run.now) }
 {
-    let mut at = 0;
-    while POLYGON_WORDS <= run.len() - at {
-        if word_at(run, POLYGON_WORDS, at, index) != 0 {
+    for entry in run.chunks_exact(POLYGON_WORDS) {
+        if entry[index] != 0 {
             return false;
         }
-        at += POLYGON_WORDS;
     }
     true
 }
@@ -44,12 +41,8 @@ pub fn put_pairs(out: &mut [u8], at: usize, run: &[u32], index: usize) -> usize
     ensures { Wrote out.old at (pairs_from 0 (column polygon_size index run.now)) out.new result }
 {
     let mut next = at;
-    let mut i = 0;
-    let mut entry = 0;
-    while POLYGON_WORDS <= run.len() - entry {
-        next = put_pair(out, next, i, word_at(run, POLYGON_WORDS, entry, index));
-        i += 1;
-        entry += POLYGON_WORDS;
+    for (i, entry) in run.chunks_exact(POLYGON_WORDS).enumerate() {
+        next = put_pair(out, next, i as u32, entry[index]);
     }
     next
 }

@@ -1,14 +1,14 @@
 -- A SURF is put part by part, and the names and their records are walked together: what is left is the chunks of the names that are left.
 use Rattle.std.specs.Prelude.{if◌then◌else◌}
-use Prim.Native.Nat.{ℕ, ◌+◌, ◌-◌, ◌*◌, ◌<◌, ◌≤◌}
+use Prim.Native.Nat.{ℕ, ◌+◌, ◌-◌, ◌*◌, ◌≤◌}
 use Prim.Native.String.{String}
 use mathlib.Core.Path.{◌≡◌, refl, sym, ap, ◌∙◌}
 use mathlib.Core.List.{List, [], ◌∷◌, ◌++◌, map, append-nil}
 use mathlib.Core.Bool.{Bool, true, false}
 use native.Mathlib.Omega.{arith}
 use lib.Dec.{eqb}
-use lib.ListN.{length, get_or, take, drop, length-append, length-drop}
-use lib.Seq.{length-take-le}
+use lib.ListN.{length, get_or, take, drop, length-append}
+use lib.Seq.{drop-drop}
 use borrow.Author.Tests.{eq-eqb, ne_eqb}
 use Rattle.format.specs.Bytes.{number, tag_number, sum, joined}
 use Rattle.format.specs.Mesh.{Name, Surface, record_size, surface_from, surface_words}
@@ -18,13 +18,14 @@ use Rattle.format.proofs.Puts.{joined_map_append}
 use Rattle.format.proofs.Facts.{length_each}
 use Rattle.format.proofs.CanonicalLengths.{length_bytes}
 use Rattle.mesh.specs.Lent.{mesh_surfaces}
-use Rattle.format.proofs.Indexed.{past_end}
 use Rattle.mesh.proofs.Records.{words_back}
 use Rattle.format.proofs.Indexed.{part}
-use Rattle.format.proofs.Indexed.{pieces_at, sum_index}
-use Rattle.mesh.proofs.Entries.{surfaces_at}
+use Rattle.std.specs.Iterator.Adapters.{zip_second}
+use Rattle.mesh.proofs.ColumnWalk.{NextEntry}
+use Rattle.mesh.proofs.NamedRecords as named
+use Rattle.mesh.proofs.NamedRecords.{NamedRecords, Both, NoneLeft, names_left, words_left, surfaces_next}
 use Rattle.output.specs.Outputs.{Wrote, chunks_bytes}
-use Rattle.write_surfaces.specs.Surfaces.{levels_bytes, value_bytes, surface_chunk, SurfacesRoom}
+use Rattle.write_surfaces.specs.Surfaces.{levels_bytes, value_bytes, surface_chunk}
 use Rattle.format.proofs.CanonicalLengths.{short_vx}
 use Rattle.output.proofs.PutSoFar as bytes_put
 use Rattle.output.proofs.PutSoFar.{PutSoFar, NextPart}
@@ -100,53 +101,41 @@ one_surface name s = go (eqb s.defined 1)
 abbrev surfaces_bytes : (names name_bytes records : List ℕ) → List ℕ
 surfaces_bytes ns bs ws = chunks_bytes (surface_chunks (pieces ns bs) (mesh_surfaces ws))
 
-pub record SurfaceWalk (ns bs ws t : List ℕ) (at : ℕ) (t' : List ℕ) (next i from entry : ℕ) : Type 0 where
-  pub agree : from + sum (drop i ns) ≡ length bs
-  pub each : length ws ≡ record_size * length ns
-  pub entry_is : entry ≡ record_size * i
-  pub fills : PutSoFar (surfaces_bytes ns bs ws) (surfaces_bytes (drop i ns) (drop from bs) (drop entry ws)) t at t' next
+pub record SurfaceWalk (ns bs ws t : List ℕ) (at : ℕ) (t' : List ℕ) (next from : ℕ) (z : Both) : Type 0 where
+  pub both : NamedRecords ns z
+  pub agree : from + sum (names_left z) ≡ length bs
+  pub fills : PutSoFar (surfaces_bytes ns bs ws) (surfaces_bytes (names_left z) (drop from bs) (words_left z)) t at t' next
 
-pub begin : {ns bs ws t : List ℕ} {at : ℕ} → SurfacesRoom t at ns bs ws → SurfaceWalk ns bs ws t at t at 0 0 0
-begin lent = record { agree = omega (arith, lent.agree); each = lent.a_record_each; entry_is = refl; fills = bytes_put.begin lent.room }
-
-module _ {ns bs ws t t' : List ℕ} {at next i from entry : ℕ} (w : SurfaceWalk ns bs ws t at t' next i from entry) where
-  pub end : length ns ≤ i → Wrote t at (surfaces_bytes ns bs ws) t' next
+module _ {ns bs ws t t' : List ℕ} {at next from : ℕ} {z : Both} (w : SurfaceWalk ns bs ws t at t' next from z) where
+  pub end : NoneLeft z → Wrote t at (surfaces_bytes ns bs ws) t' next
   unfolding surface_chunks pieces joined
-  end outside = bytes_put.end w.fills (rw (past_end ns i outside))
+  end none = bytes_put.end w.fills (rw (named.end w.both none))
 
-  module _ (inside : i < length ns) where
-    pub record_there : entry + record_size ≤ length ws
-    record_there = omega (arith, w.each, w.entry_is)
+  module _ (u : Both) (n : ℕ) (x : List ℕ) (first : names_left z ≡ n ∷ names_left u) (step : NextEntry (zip_second z) (zip_second u) x) where
+    abbrev name : List ℕ
+    name = take (from + n - from) (drop from bs)
 
-    module _ {n : ℕ} (count : n ≡ get_or ns i 0) where
-      abbrev name : List ℕ
-      name = take (from + n - from) (drop from bs)
+    counts : from + (n + sum (names_left u)) ≡ length bs
+    unfolding sum
+    counts = rw first at w.agree
 
-      abbrev words : List ℕ
-      words = take (entry + record_size - entry) (drop entry ws)
+    pub name_there : from + n ≤ length bs
+    name_there = omega (arith, counts)
 
-      pub name_there : from + n ≤ length bs
-      name_there = omega (arith, w.agree, sum_index i ns inside)
+    one : NextPart (surfaces_bytes (names_left z) (drop from bs) (words_left z)) (surface_chunk name (surface_from x)) (surfaces_bytes (names_left u) (drop (from + n) bs) (words_left u))
+    unfolding surface_chunks pieces
+    one = record {
+      is = rw (first, step.1.0, part from n bs, surfaces_next x (words_left u) (named.long w.both u n x first step), drop-drop n from bs)
+          (joined_map_append encoded (chosen (take n (drop from bs)) (surface_from x)) (surface_chunks (pieces (names_left u) (drop (from + n) bs)) (mesh_surfaces (words_left u)))
+          ∙ rw (one_surface (take n (drop from bs)) (surface_from x)));
+    }
 
-      one : NextPart (surfaces_bytes (drop i ns) (drop from bs) (drop entry ws)) (surface_chunk name (surface_from words)) (surfaces_bytes (drop (i + 1) ns) (drop (from + n) bs) (drop (entry + record_size) ws))
-      unfolding surface_chunks
-      one = record {
-        is = rw (part from n bs, count, part entry record_size ws, pieces_at i from ns bs inside, surfaces_at entry ws (omega (arith, record_there)))
-            (joined_map_append encoded (chosen (take (get_or ns i 0) (drop from bs)) (surface_from (take record_size (drop entry ws)))) (surface_chunks (pieces (drop (i + 1) ns) (drop (from + get_or ns i 0) bs)) (mesh_surfaces (drop (entry + record_size) ws)))
-            ∙ rw (one_surface (take (get_or ns i 0) (drop from bs)) (surface_from (take record_size (drop entry ws)))));
-      }
+    pub surface_room : (length x ≡ record_size) × (next + length (surface_chunk name (surface_from x)) ≤ length t')
+    surface_room = (named.long w.both u n x first step, bytes_put.room w.fills one)
 
-      pub surface_room : (length words ≡ record_size) × (next + length (surface_chunk name (surface_from words)) ≤ length t')
-      surface_room = (
-        rw (part entry record_size ws) (length-take-le record_size (drop entry ws) (omega (arith, record_there, length-drop entry ws))),
-        bytes_put.room w.fills one,
-      )
-
-      pub turn : {t'' : List ℕ} {last : ℕ} → Wrote t' next (surface_chunk name (surface_from words)) t'' last
-          → SurfaceWalk ns bs ws t at t'' last (i + 1) (from + n) (entry + record_size)
-      turn v = record {
-        agree = omega (arith, w.agree, sum_index i ns inside);
-        each = w.each;
-        entry_is = omega (arith, w.entry_is);
-        fills = bytes_put.turn w.fills one v;
-      }
+    pub turn : {t'' : List ℕ} {last : ℕ} → Wrote t' next (surface_chunk name (surface_from x)) t'' last → SurfaceWalk ns bs ws t at t'' last (from + n) u
+    turn v = record {
+      both = named.turn w.both u n x first step;
+      agree = omega (arith, counts);
+      fills = bytes_put.turn w.fills one v;
+    }

@@ -13,7 +13,6 @@ use format::RECORD_WORDS;
 use format::tags::{COLR, DIFF, LUMI, REFL, SIDE, SPEC, SURF, TRAN};
 use output::heads::{close_chunk, put_sub_head};
 use output::items::{put_string, put_u2, put_vx, put_words};
-use words::wide;
 
 // One level, or the three of a colour, with the envelope. Their length is even, so no pad follows.
 fn put_levels(out: &mut [u8], at: usize, tag: u32, levels: &[u32]) -> usize
@@ -63,6 +62,7 @@ fn put_surface(out: &mut [u8], at: usize, name: &[u8], words: &[u32]) -> usize
 }
 
 // A SURF for each name whose record is defined, in the order of the names.
+// The lengths and the joined bytes are two of the caller's tables. A pair of them would be taken apart in each contract, so they stay side by side.
 pub fn put_surfaces(
     out: &mut [u8],
     at: usize,
@@ -74,16 +74,11 @@ pub fn put_surfaces(
     ensures { Wrote out.old at (chunks_bytes (surface_chunks (pieces names.now name_bytes.now) (mesh_surfaces records.now))) out.new result }
 {
     let mut next = at;
-    let mut i = 0;
     let mut from = 0;
-    let mut entry = 0;
-    while i < names.len() {
-        let end = from + wide(names[i]);
-        let last = entry + RECORD_WORDS;
-        next = put_surface(out, next, &name_bytes[from..end], &records[entry..last]);
-        i += 1;
+    for (length, record) in names.iter().zip(records.chunks_exact(RECORD_WORDS)) {
+        let end = from + *length as usize;
+        next = put_surface(out, next, &name_bytes[from..end], record);
         from = end;
-        entry = last;
     }
     next
 }

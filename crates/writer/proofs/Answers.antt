@@ -1,21 +1,17 @@
 -- The answer by its tests, in their order.
 use Prim.Native.Nat.{ℕ, ◌<◌, ◌≤◌}
 use mathlib.Core.Path.{◌≡◌}
-use mathlib.Core.List.{List}
 use mathlib.Core.Bool.{Bool, true, false}
 use lib.ListN.{length}
 use borrow.Author.Tests.{lt-ltb, le-ltb}
 use Rattle.format.specs.Limits.{file_limit}
-use Rattle.format.specs.Mesh.{Tables, lent}
+use Rattle.format.specs.Mesh.{Tables}
 use Rattle.format.specs.Canonical.{canonical}
 use Rattle.format.specs.Written.{mesh_from, is_mesh, says, written}
 use Rattle.format.specs.Refusals.{no_room_number, not_mesh_number, too_long_number}
 use Rattle.mesh.proofs.AllPass.{passed, failed}
 
-module _ (points polygons vertices names name_bytes records : List ℕ) (room : ℕ) {b : Bool} (mesh_is : b ≡ is_mesh (lent points polygons vertices names name_bytes records)) where
-  abbrev t : Tables
-  t = lent points polygons vertices names name_bytes records
-
+module _ (t : Tables) (room : ℕ) {b : Bool} (mesh_is : b ≡ is_mesh t) where
   pub no_mesh : b ≡ false → says not_mesh_number 0 ≡ written t room
   unfolding written
   no_mesh bad = rw (failed mesh_is bad)

@@ -81,7 +81,7 @@ module _ (t : Tables) where
   head_long long = omega (arith, long, length_form "LWO2" all_chunks refl)
 
   module _ (ok : is_mesh t ≡ true) where
-    facts : MeshFacts t.points t.polygons t.vertices t.names t.name_bytes t.records
+    pub facts : MeshFacts t.points t.polygons t.vertices t.names t.name_bytes t.records
     facts = mesh_facts t.points t.polygons t.vertices t.names t.name_bytes t.records ok
 
     pub small_vertices : all (λ v. ltb v (2 ^ 24)) t.vertices ≡ true

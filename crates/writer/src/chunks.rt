@@ -10,6 +10,7 @@ use output::heads::close_chunk;
 use output::items::{put_strings, put_words};
 
 // TAGS is left out where there are no names.
+// The lengths and the joined bytes are two of the caller's tables. A pair of them would be taken apart in each contract, so they stay side by side.
 pub fn put_names_chunk(out: &mut [u8], at: usize, names: &[u32], name_bytes: &[u8]) -> usize
     requires { (sum names.now ≡ length name_bytes.now) × (at + length (chunks_bytes (unless_empty "TAGS" "" string_bytes (pieces names.now name_bytes.now))) ≤ length out.old) }
     ensures { Wrote out.old at (chunks_bytes (unless_empty "TAGS" "" string_bytes (pieces names.now name_bytes.now))) out.new result }
@@ -22,6 +23,7 @@ pub fn put_names_chunk(out: &mut [u8], at: usize, names: &[u32], name_bytes: &[u
 }
 
 // PNTS is left out where there are no points. Points are three words each, so their bytes are those of all words.
+// One function for this and `put_names_chunk` would take the tag, the test and the body's writer, of which each has its own promise, and be no plainer.
 pub fn put_points_chunk(out: &mut [u8], at: usize, points: &[u32]) -> usize
     requires { at + length (chunks_bytes (unless_empty "PNTS" "" (bytes 4) points.now)) ≤ length out.old }
     ensures { Wrote out.old at (chunks_bytes (unless_empty "PNTS" "" (bytes 4) points.now)) out.new result }

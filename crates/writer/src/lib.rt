@@ -1,10 +1,10 @@
 // The canonical file of a mesh: what the writer answers, and the file put into a lent output. Nothing is put before its whole length is known to fit.
 #![tactic(auto)]
 
-ghost use Rattle.std.specs.Prelude.{◌≡◌, length};
-ghost use Rattle.format.specs.Mesh.{lent};
+ghost use Rattle.std.specs.Prelude.{◌≡◌};
 ghost use Rattle.format.specs.Canonical.{canonical};
 ghost use Rattle.format.specs.Written.{mesh_from, written, Writes};
+ghost use Rattle.mesh.specs.Tables.{tables_of};
 ghost use Rattle.writer.specs.Writes.{answer_as};
 ghost use Rattle.output.specs.Outputs.{Wrote};
 ghost use Rattle.writer.specs.Promises.{OutputRoom};
@@ -13,6 +13,7 @@ use crate::chunks::{put_names_chunk, put_points_chunk};
 use format::tags::{FORM, LWO2};
 use good_mesh::is_mesh;
 use lengths::file_length;
+use mesh::lent::Tables;
 use output::heads::put_head;
 use output::items::put_u4;
 use write_runs::put_runs;
@@ -20,105 +21,54 @@ use write_surfaces::put_surfaces;
 
 pub mod chunks;
 
-// The number of a refusal (0 written), the place 0, and a length: bytes written on 0, bytes needed on 16, else 0.
-#[derive(Clone, Copy)]
-pub struct WriteAnswer {
-    pub number: u32,
-    pub place: usize,
-    pub length: usize,
+// Why the tables are not written. Where there is no room, the length that is needed is told.
+#[derive(Clone, Copy, Debug, PartialEq, Eq)]
+pub enum WriteError {
+    NotAMesh,
+    OutTooLong,
+    NoRoom(usize),
 }
 
-// The writer's place is always 0.
-fn says(number: u32, length: usize) -> WriteAnswer
-    ensures { result ≡ record { number = number; place = 0; length = length } }
+// The writer's answer for an output of `room` bytes: the length of the file, or the first of the reasons that holds, in their order.
+pub fn answer_for(tables: &Tables<'_>, room: usize) -> Result<usize, WriteError>
+    ensures { answer_as result ≡ written (tables_of tables.now) room }
 {
-    WriteAnswer {
-        number,
-        place: 0,
-        length,
+    if !is_mesh(tables) {
+        return Err(WriteError::NotAMesh);
     }
-}
-
-// The writer's answer for an output of `room` bytes: 17, then 18, then 16.
-pub fn answer_for(
-    points: &[u32],
-    polygons: &[u32],
-    vertices: &[u32],
-    names: &[u32],
-    name_bytes: &[u8],
-    records: &[u32],
-    room: usize,
-) -> WriteAnswer
-    ensures { answer_as result ≡ written (lent points.now polygons.now vertices.now names.now name_bytes.now records.now) room }
-{
-    if !is_mesh(points, polygons, vertices, names, name_bytes, records) {
-        return says(17, 0);
-    }
-    let length = file_length(points, polygons, vertices, names, name_bytes, records);
+    let length = file_length(tables);
     if 16777216 < length {
-        return says(18, 0);
+        return Err(WriteError::OutTooLong);
     }
     if room < length {
-        return says(16, length);
+        return Err(WriteError::NoRoom(length));
     }
-    says(0, length)
+    Ok(length)
 }
 
 // A file of n bytes: FORM with the length of what follows it, the type, and the chunks in their order.
-fn put_file(
-    out: &mut [u8],
-    points: &[u32],
-    polygons: &[u32],
-    vertices: &[u32],
-    names: &[u32],
-    name_bytes: &[u8],
-    records: &[u32],
-    n: usize,
-) -> usize
-    requires { OutputRoom (lent points.now polygons.now vertices.now names.now name_bytes.now records.now) out.old n }
-    ensures { Wrote out.old 0 (canonical (mesh_from (lent points.now polygons.now vertices.now names.now name_bytes.now records.now))) out.new result }
+fn put_file(out: &mut [u8], tables: &Tables<'_>, n: usize) -> usize
+    requires { OutputRoom (tables_of tables.now) out.old n }
+    ensures { Wrote out.old 0 (canonical (mesh_from (tables_of tables.now))) out.new result }
 {
     let kind = put_head(out, 0, FORM, n - 8);
     let tags = put_u4(out, kind, LWO2);
-    let coordinates = put_names_chunk(out, tags, names, name_bytes);
-    let runs = put_points_chunk(out, coordinates, points);
-    let surfaces = put_runs(out, runs, polygons, vertices);
-    put_surfaces(out, surfaces, names, name_bytes, records)
+    let coordinates = put_names_chunk(out, tags, tables.names, tables.name_bytes);
+    let runs = put_points_chunk(out, coordinates, tables.points);
+    let surfaces = put_runs(out, runs, tables.polygons, tables.vertices);
+    put_surfaces(
+        out,
+        surfaces,
+        tables.names,
+        tables.name_bytes,
+        tables.records,
+    )
 }
 
-// The output is written only where the answer is 0, and past the file's length it stays as it was.
-pub fn write(
-    points: &[u32],
-    polygons: &[u32],
-    vertices: &[u32],
-    names: &[u32],
-    name_bytes: &[u8],
-    records: &[u32],
-    out: &mut [u8],
-) -> WriteAnswer
-    ensures { Writes (lent points.now polygons.now vertices.now names.now name_bytes.now records.now) out.old (answer_as result) out.new }
+// The output is written only where nothing is refused, and past the file's length it stays as it was.
+pub fn write(tables: &Tables<'_>, out: &mut [u8]) -> Result<usize, WriteError>
+    ensures { Writes (tables_of tables.now) out.old (answer_as result) out.new }
 {
-    let answer = answer_for(
-        points,
-        polygons,
-        vertices,
-        names,
-        name_bytes,
-        records,
-        out.len(),
-    );
-    if answer.number != 0 {
-        return answer;
-    }
-    put_file(
-        out,
-        points,
-        polygons,
-        vertices,
-        names,
-        name_bytes,
-        records,
-        answer.length,
-    );
-    answer
+    let length = answer_for(tables, out.len())?;
+    Ok(put_file(out, tables, length))
 }

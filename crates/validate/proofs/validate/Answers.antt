@@ -1,14 +1,17 @@
 -- The header is judged before the chunks, and the first fault of the two is the answer (`FileJudged`).
+use borrow.Author.Rules.{rules}
+use mathlib.Core.Path.{◌≡◌}
+use Rattle.std.specs.Prelude.{Err}
 use Rattle.validate.proofs.FileJudged.{no_file, refused, counted}
 use Rattle.validate.proofs.validate.Goals as goal
 
-pub returns-in-Stop : goal.returns-in-Stop
-returns-in-Stop c = no_file (rw c.in-Stop.is at c.header.ensures)
+pub returns-in-Err : goal.returns-in-Err
+returns-in-Err c = no_file c.in-Err.ensures
 
-pub returns-in-Refused : goal.returns-in-Refused
-returns-in-Refused c =
-    refused (rw c.in-Kind.is at c.header.ensures) (rw c.in-Refused.is at c.validate_chunks.ensures)
+pub returns-in_err-totals : goal.returns-in_err-totals
+returns-in_err-totals c =
+    let told : c.from_residual.result ≡ Err c.in_err-totals.field-0.0 = search rules in
+    rw told (refused c.in-Ok.ensures c.in_err-totals.ensures)
 
-pub returns-in-Counts : goal.returns-in-Counts
-returns-in-Counts c =
-    counted (rw c.in-Kind.is at c.header.ensures) (rw c.in-Counts.is at c.validate_chunks.ensures)
+pub returns : goal.returns
+returns c = counted c.in-Ok.ensures c.in_ok-totals.ensures

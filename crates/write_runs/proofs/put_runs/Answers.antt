@@ -2,18 +2,10 @@
 use Prim.Native.Nat.{◌+◌, ◌≤◌}
 use native.Mathlib.Omega.{arith}
 use lib.ListN.{length}
-use Rattle.mesh.proofs.RunWalk.{later, run_few, room}
-use Rattle.write_runs.proofs.Runs.{begin, run_room, turn, end}
+use Rattle.mesh.proofs.RunWalk.{room}
+use Rattle.write_runs.proofs.Runs.{run_room, turn, end}
 use Rattle.write_runs.proofs.put_runs.Goals.{After-vertex_count}
 use Rattle.write_runs.proofs.put_runs.Goals as goal
-
-pub loop-entry-init : goal.loop-entry-init
-loop-entry-init c = begin c.requires.0 c.requires.1
-
-pub vertex_count-requires : goal.vertex_count-requires
-vertex_count-requires c =
-    let w = c.loop-entry.invariant.walk in
-    omega (arith, run_few w c.loop-entry-test.true c.run_end-end.ensures, w.lent.few)
 
 -- the vertices of the run are there
 there : (n : After-vertex_count)
@@ -25,9 +17,6 @@ there n =
 pub overflow_add-last : goal.overflow_add-last
 overflow_add-last c = omega (arith, there (goal.at.overflow_add-last c).After-vertex_count)
 
-pub offset_bounds-vertices-first : goal.offset_bounds-vertices-first
-offset_bounds-vertices-first c = omega (arith, there (goal.at.offset_bounds-vertices-first c).After-vertex_count)
-
 pub slice_bounds-put_run-end-in-loop-entry : goal.slice_bounds-put_run-end-in-loop-entry
 slice_bounds-put_run-end-in-loop-entry c = there (goal.at.slice_bounds-put_run-end-in-loop-entry c).After-vertex_count
 
@@ -35,16 +24,9 @@ pub put_run-next-requires : goal.put_run-next-requires
 put_run-next-requires c =
     run_room c.loop-entry.invariant c.loop-entry-test.true c.run_end-end.ensures c.vertex_count.ensures
 
-pub loop-entry-smaller : goal.loop-entry-smaller
-loop-entry-smaller c =
-    omega (arith, later c.loop-entry.invariant.walk c.loop-entry-test.true c.run_end-end.ensures, c.run_end-end.ensures.1)
-
 pub loop-entry-preserved : goal.loop-entry-preserved
 loop-entry-preserved c =
     turn c.loop-entry.invariant c.loop-entry-test.true c.run_end-end.ensures c.vertex_count.ensures c.put_run-next.ensures
-
-pub shape_of-out : goal.shape_of-out
-shape_of-out c = c.loop-entry.invariant.walk.walk.left.wrote.kept
 
 pub returns : goal.returns
 returns c = end c.loop-entry.invariant c.loop-entry-test.false

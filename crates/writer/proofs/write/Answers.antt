@@ -1,16 +1,17 @@
--- Where the answer is not 0 nothing is put, and where it is 0 the file fits.
-use Rattle.format.specs.Mesh.{lent}
+-- Where the answer is a refusal nothing is put, and else the file fits.
+use borrow.Author.Rules.{rules}
+use mathlib.Core.Path.{◌≡◌}
+use Rattle.std.specs.Prelude.{Err}
 use Rattle.writer.proofs.Outputs.{refused, accepted, written_out}
 use Rattle.writer.proofs.write.Goals as goal
 
-pub returns-then-answer-ne0 : goal.returns-then-answer-ne0
-returns-then-answer-ne0 c =
-    refused (lent c.args.points.now c.args.polygons.now c.args.vertices.now c.args.names.now c.args.name_bytes.now c.args.records.now) c.args.out.now c.answer_for-answer.ensures c.if-answer-ne0.true
+pub returns-in_err-length : goal.returns-in_err-length
+returns-in_err-length c =
+    let told : c.from_residual.result ≡ Err c.in_err-length.field-0.0 = search rules in
+    rw told (refused _ _ _ c.in_err-length.ensures)
 
 pub put_file-requires : goal.put_file-requires
-put_file-requires c =
-    accepted (lent c.args.points.now c.args.polygons.now c.args.vertices.now c.args.names.now c.args.name_bytes.now c.args.records.now) c.args.out.now c.answer_for-answer.ensures c.if-answer-ne0.false
+put_file-requires c = accepted _ _ c.in_ok-length.ensures
 
 pub returns : goal.returns
-returns c =
-    written_out (lent c.args.points.now c.args.polygons.now c.args.vertices.now c.args.names.now c.args.name_bytes.now c.args.records.now) c.args.out.now c.answer_for-answer.ensures c.if-answer-ne0.false c.put_file.ensures
+returns c = written_out _ _ c.in_ok-length.ensures c.put_file.ensures

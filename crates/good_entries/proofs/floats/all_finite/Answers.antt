@@ -1,19 +1,14 @@
--- The words that are left decide, as long as each so far was finite.
-use mathlib.Core.Path.{sym, ◌∙◌}
-use Rattle.format.proofs.Indexed.{at_index, past_end}
-use Rattle.mesh.proofs.AllPass.{begin, turn, fails, end}
+-- The chain asks the test of each word.
+use mathlib.Core.Path.{refl, ◌∙◌}
+use borrow.Author.Rules.{rules}
+use borrow.Author.Tests.{tests}
+use Rattle.std.proofs.lemmas.Iterator.{YieldsList-from_slice}
+use Rattle.std.proofs.lemmas.Iterator.Search.{all_from_yields_List}
+use Rattle.format.specs.Bytes.{finite}
+use Rattle.format.proofs.SameLists.{all_same}
 use Rattle.good_entries.proofs.floats.all_finite.Goals as goal
 
-pub loop-i-init : goal.loop-i-init
-loop-i-init c = begin
-
-pub returns-then-not-is_finite : goal.returns-then-not-is_finite
-returns-then-not-is_finite c =
-    fails c.loop-i.invariant (at_index _ _ c.loop-i-test.true) (sym c.is_finite.ensures ∙ c.if-not-is_finite.true)
-
-pub loop-i-preserved : goal.loop-i-preserved
-loop-i-preserved c =
-    turn c.loop-i.invariant (at_index _ _ c.loop-i-test.true) (sym c.is_finite.ensures ∙ c.if-not-is_finite.false)
-
 pub returns : goal.returns
-returns c = end c.loop-i.invariant (past_end _ _ c.loop-i-test.false)
+returns c =
+    all_from_yields_List finite _ _ c.all.result c.all.ensures.ran (YieldsList-from_slice c.args.words.now cc) (λ x b q k. search (rules, tests))
+    ∙ all_same finite finite (λ w. refl) c.args.words.now

@@ -3,14 +3,10 @@ use Prim.Native.Nat.{ℕ, ◌+◌, ◌-◌}
 use mathlib.Core.Path.{◌∙◌, ap, sym}
 use native.Mathlib.Omega.{arith}
 use lib.ListN.{length}
-use borrow.Author.Tests.{eq-eqb}
 use Rattle.format.specs.Canonical.{vx_bytes}
 use Rattle.format.proofs.CanonicalLengths.{length_bytes}
 use Rattle.mesh.proofs.Pairs.{pair_parts}
 use Rattle.lengths.proofs.runs.pair_length.Goals as goal
-
-pub returns-then-number-eq0 : goal.returns-then-number-eq0
-returns-then-number-eq0 c = record { size_is = rw (eq-eqb _ _ c.if-number-eq0.true); few = omega arith }
 
 pub returns-else-number-eq0 : goal.returns-else-number-eq0
 returns-else-number-eq0 c =

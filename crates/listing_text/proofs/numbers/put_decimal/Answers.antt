@@ -4,11 +4,6 @@ use native.Mathlib.Omega.{arith}
 use Rattle.listing_text.proofs.Decimal.{decimal_is, few_digits}
 use Rattle.listing_text.proofs.numbers.put_decimal.Goals as goal
 
-pub put_bytes-requires : goal.put_bytes-requires
-put_bytes-requires c =
-    let d = c.decimal-count.ensures in
-    omega (arith, d.in_bounds.1, few_digits _ _ (omega arith) d.len, c.requires)
-
 pub returns : goal.returns
 returns c =
     let d = c.decimal-count.ensures in

@@ -6,7 +6,4 @@ use Rattle.listing_text.proofs.polygons.put_heading.Goals as goal
 pub returns : goal.returns
 unfolding heading
 returns c =
-    let second = rw c.wide.ensures.0 at c.put_labelled-to_surface.ensures in
-    let third = rw c.wide-2.ensures.0 at c.put_labelled-to_part.ensures in
-    let fourth = rw c.wide-3.ensures.0 at c.put_labelled-to_end.ensures in
-    five_print c.put_labelled-to_kind.ensures second third fourth (wrote_all c.put_bytes.ensures) c.requires
+    five_print c.put_labelled-to_kind.ensures c.put_labelled-to_surface.ensures c.put_labelled-to_part.ensures c.put_labelled-to_end.ensures (wrote_all c.put_bytes.ensures) c.requires

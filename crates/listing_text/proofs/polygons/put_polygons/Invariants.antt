@@ -1,11 +1,8 @@
 -- A walk over the polygons that puts a line for each.
-use Prim.Native.Nat.{◌-◌}
-use lib.ListN.{length}
+use Rattle.std.specs.Iterator.Adapters.{enumerate_source, enumerate_count}
 use Rattle.listing_text.proofs.PrintedPolygons.{PrintedPolygons}
 use Rattle.listing_text.proofs.polygons.put_polygons.Given as goal
 
-abbrev pub invariant-loop-entry : goal.invariant-loop-entry
-invariant-loop-entry l = PrintedPolygons l.polygons l.vertices l.initial.out l.at l.out l.next l.number l.entry l.first
-
-abbrev pub decreases-loop-entry : goal.decreases-loop-entry
-decreases-loop-entry l = length l.polygons - l.entry
+abbrev pub invariant-loop-number : goal.invariant-loop-number
+invariant-loop-number l =
+    PrintedPolygons l.polygons l.vertices l.initial.out l.at l.out l.next (enumerate_count l.number-iterator) l.first (enumerate_source l.number-iterator)

@@ -1,51 +1,18 @@
 -- The points of the chunks that were passed stand in the table, and each turn puts those of one chunk behind them (`PointsWalk`).
-use Prim.Native.Nat.{ℕ}
-use mathlib.Core.List.{List}
-use native.Mathlib.Omega.{arith}
-use Rattle.headers.specs.declared.Header.{Header}
-use Rattle.headers.specs.Promises.{HeaderAt}
 use Rattle.load_lists.proofs.PointsWalk.{begin, end, never_bad, chunk_room, turn}
-use Rattle.load_lists.proofs.points.fill_points.Goals.{In-Got}
 use Rattle.load_lists.proofs.points.fill_points.Goals as goal
-
--- the chunk of this turn
-abbrev file : In-Got → List ℕ
-file x = x.args.file.now
-
-abbrev place : In-Got → ℕ
-place x = x.loop-at.at
-
-header : (x : In-Got)
-    → HeaderAt 4 (file x) (place x) (Header.Got x.in-Got.tag x.in-Got.end x.in-Got.next)
-header x = rw x.in-Got.is at x.chunk_at.ensures
 
 pub loop-at-init : goal.loop-at-init
 loop-at-init c = begin c.requires
 
 pub returns-in_default : goal.returns-in_default
-returns-in_default c =
-    absurd (never_bad c.loop-at.invariant c.loop-at-test.true (rw c.in_default.is at c.chunk_at.ensures))
+returns-in_default c = absurd (never_bad c.loop-at.invariant c.loop-at-test.true c.in_default.ensures)
 
 pub put_chunk-m-requires : goal.put_chunk-m-requires
-put_chunk-m-requires c =
-    chunk_room c.loop-at.invariant c.loop-at-test.true (header (goal.at.put_chunk-m-requires c).In-Got)
-
-pub loop-at-smaller : goal.loop-at-smaller
-loop-at-smaller c =
-    omega (arith, (header (goal.at.loop-at-smaller c).In-Got).inside, c.loop-at-test.true)
+put_chunk-m-requires c = chunk_room c.loop-at.invariant c.loop-at-test.true c.in-Ok.ensures
 
 pub loop-at-preserved : goal.loop-at-preserved
-loop-at-preserved c =
-    turn c.loop-at.invariant c.loop-at-test.true (header (goal.at.loop-at-preserved c).In-Got) c.put_chunk-m.ensures
+loop-at-preserved c = turn c.loop-at.invariant c.loop-at-test.true c.in-Ok.ensures c.put_chunk-m.ensures
 
 pub returns : goal.returns
 returns c = end c.loop-at.invariant c.loop-at-test.false
-
-pub slice_bounds-put_chunk-count : goal.slice_bounds-put_chunk-count
-slice_bounds-put_chunk-count c = omega (arith, (header c).inside)
-
-pub slice_bounds-put_chunk-start : goal.slice_bounds-put_chunk-start
-slice_bounds-put_chunk-start c = omega (arith, (header c).inside)
-
-pub slice_bounds-put_chunk-end : goal.slice_bounds-put_chunk-end
-slice_bounds-put_chunk-end c = omega (arith, (header c).inside)

@@ -1,10 +1,6 @@
 -- Each turn puts the three words of one point, and the body holds whole points.
-use Prim.Native.Nat.{◌-◌}
 use Rattle.load_lists.proofs.PutPoints.{PointsStored}
 use Rattle.load_lists.proofs.points.put_points.Given as goal
 
 abbrev pub invariant-loop-i : goal.invariant-loop-i
-invariant-loop-i l = PointsStored l.s l.initial.table l.m l.n l.i l.table
-
-abbrev pub decreases-loop-i : goal.decreases-loop-i
-decreases-loop-i l = l.n - l.i
+invariant-loop-i l = PointsStored l.s l.initial.table l.m l.i l.table

@@ -14,34 +14,34 @@ shape_of-table-in_default c = c.loop-at.invariant.kept
 
 pub returns-in_default : goal.returns-in_default
 returns-in_default c =
-    absurd (never (polygon_fine c.loop-at.invariant c.loop-at-test.true) (rw c.in_default.is at c.vx.ensures).says)
+    absurd (never (polygon_fine c.loop-at.invariant c.loop-at-test.true) c.in_default.ensures.says)
 
 pub shape_of-table-in_default-u2 : goal.shape_of-table-in_default-u2
 shape_of-table-in_default-u2 c = c.loop-at.invariant.kept
 
 pub returns-in_default-u2 : goal.returns-in_default-u2
 returns-in_default-u2 c =
-    absurd (never (tag_fine c.loop-at.invariant c.loop-at-test.true (rw c.in-Got.is at c.vx.ensures))
-    (rw c.in_default-u2.is at c.u2.ensures).says)
+    absurd (never (tag_fine c.loop-at.invariant c.loop-at-test.true c.in-Ok.ensures)
+    c.in_default-u2.ensures.says)
 
 pub overflow_add-table : goal.overflow_add-table
 overflow_add-table c =
-    record { fits = omega (arith, u2_small c.type_inv.s (rw c.in-Got-u2.is at c.u2.ensures)) }
+    record { fits = omega (arith, u2_small c.type_inv.s c.in-Ok-u2.ensures) }
 
 pub bounds-table-i : goal.bounds-table-i
 bounds-table-i c =
-    let y = stored c.loop-at.invariant c.loop-at-test.true (rw c.in-Got.is at c.vx.ensures) in
+    let y = stored c.loop-at.invariant c.loop-at-test.true c.in-Ok.ensures in
     search (rules, y)
 
 pub loop-at-smaller : goal.loop-at-smaller
 loop-at-smaller c =
-    let v = rw c.in-Got.is at c.vx.ensures in
-    let w = rw c.in-Got-u2.is at c.u2.ensures in
+    let v = c.in-Ok.ensures in
+    let w = c.in-Ok-u2.ensures in
     omega (arith, v.moves, w.moves, c.loop-at-test.true)
 
 pub loop-at-preserved : goal.loop-at-preserved
 loop-at-preserved c =
-    tags_turn c.loop-at.invariant c.loop-at-test.true (rw c.in-Got.is at c.vx.ensures) (rw c.in-Got-u2.is at c.u2.ensures)
+    tags_turn c.loop-at.invariant c.loop-at-test.true c.in-Ok.ensures c.in-Ok-u2.ensures
 
 pub shape_of-table : goal.shape_of-table
 shape_of-table c = c.loop-at.invariant.kept

@@ -1,15 +1,25 @@
--- The lengths before the index are added up, and those from it on are still to be.
+-- The chain adds up the lengths, each as it is.
+use borrow.Author.Rules.{rules}
+use mathlib.Core.Path.{◌≡◌, refl, ◌∙◌}
+use mathlib.Core.List.{List, [], ◌∷◌}
+use Prim.Native.Nat.{ℕ, ◌+◌, ◌<◌, ◌^◌}
 use native.Mathlib.Omega.{arith}
+use Rattle.std.specs.List.{sum_by}
+use Rattle.std.proofs.lemmas.List.Sums.{sum_by_from}
 use Rattle.format.specs.Bytes.{sum}
-use Rattle.format.proofs.Indexed.{sum_index, past_end}
 use Rattle.name_index.proofs.listed.total.Goals as goal
 
-pub overflow_add-n : goal.overflow_add-n
-overflow_add-n c = record { fits = omega (arith, c.loop-i.invariant, sum_index c.loop-i.i c.args.lengths.now c.loop-i-test.true, c.wide-n.ensures.0, c.requires) }
+same_sum : (ns : List ℕ) → sum_by (λ n. n) ns ≡ sum ns
+unfolding sum
+same_sum [] = refl
+same_sum (n ∷ ns) = omega (arith, sum_by_from (λ n. n) (0 + n) ns, same_sum ns)
 
-pub loop-i-preserved : goal.loop-i-preserved
-loop-i-preserved c = omega (arith, c.loop-i.invariant, sum_index c.loop-i.i c.args.lengths.now c.loop-i-test.true, c.wide-n.ensures.0)
+pub sum-requires-clause-fits : goal.sum-requires-clause-fits
+sum-requires-clause-fits c =
+    let fits : sum_by (λ n. n) c.args.lengths.now < 2 ^ 64 = rw (same_sum c.args.lengths.now) c.requires in
+    search rules
 
 pub returns : goal.returns
-unfolding sum
-returns c = omega (arith, rw (past_end _ _ c.loop-i-test.false) at c.loop-i.invariant)
+returns c =
+    let is : c.sum.result ≡ sum_by (λ n. n) c.args.lengths.now = search rules in
+    is ∙ same_sum c.args.lengths.now

@@ -1,5 +1,5 @@
 -- The names are put one after another; those that are left are cut from the bytes that are left.
-use Prim.Native.Nat.{◌+◌, ◌-◌}
+use Prim.Native.Nat.{◌+◌}
 use mathlib.Core.Path.{◌≡◌}
 use mathlib.Core.List.{map}
 use lib.ListN.{length, drop}
@@ -9,8 +9,5 @@ use Rattle.format.specs.Written.{pieces}
 use Rattle.output.proofs.PutSoFar.{PutSoFar}
 use Rattle.output.proofs.items.put_strings.Given as goal
 
-abbrev pub invariant-loop-i : goal.invariant-loop-i
-invariant-loop-i l = (l.from + sum (drop l.i l.lengths) ≡ length l.bytes) × PutSoFar (joined (map string_bytes (pieces l.lengths l.bytes))) (joined (map string_bytes (pieces (drop l.i l.lengths) (drop l.from l.bytes)))) l.initial.out l.at l.out l.next
-
-abbrev pub decreases-loop-i : goal.decreases-loop-i
-decreases-loop-i l = length l.lengths - l.i
+abbrev pub invariant-loop-length : goal.invariant-loop-length
+invariant-loop-length l = (l.from + sum (drop l.length-index l.lengths) ≡ length l.bytes) × PutSoFar (joined (map string_bytes (pieces l.lengths l.bytes))) (joined (map string_bytes (pieces (drop l.length-index l.lengths) (drop l.from l.bytes)))) l.initial.out l.at l.out l.next

@@ -1,18 +1,20 @@
 -- Each turn reads one detail more, and its first fault is that of them all.
-use Rattle.format.proofs.CountLoop.{begin, turn, stop, end}
+use borrow.Author.Rules.{rules}
+use mathlib.Core.Path.{◌≡◌}
+use Rattle.std.specs.Prelude.{Err}
+use Rattle.polygon_vertices.proofs.CountedTurns.{turned, halted, ended}
 use Rattle.polygon_details.proofs.details.detail_run.Goals as goal
 
-pub loop-left-init : goal.loop-left-init
-loop-left-init c = begin
+pub returns-in_err-c : goal.returns-in_err-c
+returns-in_err-c c =
+    let told : c.from_residual.result ≡ Err c.in_err-c.field-0.0 = search rules in
+    let w = c.in_err-c.ensures in
+    rw told (halted c.loop.invariant c.loop-test.true w.says)
 
-pub returns-in-Stop : goal.returns-in-Stop
-returns-in-Stop c =
-    stop c.loop-left.invariant c.loop-left-test.true (rw c.in-Stop.is at c.one_detail.ensures).says
-
-pub loop-left-preserved : goal.loop-left-preserved
-loop-left-preserved c =
-    let w = rw c.in-At.is at c.one_detail.ensures in
-    turn c.loop-left.invariant c.loop-left-test.true w.says w.moves
+pub loop-preserved : goal.loop-preserved
+loop-preserved c =
+    let w = c.in_ok-c.ensures in
+    turned c.loop.invariant c.loop-test.true w.says w.moves
 
 pub returns : goal.returns
-returns c = end c.loop-left.invariant c.loop-left-test.false
+returns c = ended c.loop.invariant c.loop-test.false

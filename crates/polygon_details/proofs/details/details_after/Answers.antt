@@ -1,11 +1,8 @@
--- A negative sign gives what `details` gives, and any other nothing.
+-- Without a negative sign there are no details, and nothing is read.
 use mathlib.Core.Path.{refl}
 use native.Mathlib.Omega.{arith}
 use Rattle.format.proofs.ReaderSteps.{given}
 use Rattle.polygon_details.proofs.details.details_after.Goals as goal
-
-pub returns-then-negative : goal.returns-then-negative
-returns-then-negative c = rw c.if-negative.true c.details.ensures
 
 pub returns-else-negative : goal.returns-else-negative
 returns-else-negative c = rw c.if-negative.false (record { says = given refl; moves = omega arith })

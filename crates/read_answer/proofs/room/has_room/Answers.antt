@@ -7,6 +7,7 @@ use lib.ListN.{length}
 use Rattle.format.specs.Bytes.{every}
 use Rattle.format.specs.Mesh.{Needs, Tables, point_size, polygon_size, record_size}
 use Rattle.format.specs.Answer.{fits}
+use Rattle.mesh.specs.Tables.{tables_of}
 use Rattle.validate.specs.Promises.{needs_in}
 use Rattle.read_answer.proofs.room.has_room.Goals as goal
 
@@ -28,6 +29,4 @@ tests n t =
     together true true true true true true = refl
 
 pub returns : goal.returns
-returns c =
-    let a = c.args in
-    tests (needs_in a.t) (record { points = a.points.now; polygons = a.polygons.now; vertices = a.vertices.now; names = a.names.now; name_bytes = a.name_bytes.now; records = a.records.now })
+returns c = tests (needs_in c.args.t) (tables_of c.args.tables.now)

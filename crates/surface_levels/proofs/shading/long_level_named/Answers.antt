@@ -1,7 +1,9 @@
 -- The tags are the numbers of their four letters.
 use Rattle.format.specs.Bytes.{number}
+use Rattle.surface_levels.specs.Promises.{long_tag}
+use Rattle.surface_levels.proofs.LevelTags.{named}
 use Rattle.surface_levels.proofs.shading.long_level_named.Goals as goal
 
 pub returns : goal.returns
 unfolding number
-returns c = c.named_among.ensures
+returns c = rw c.named_among.ensures (named c.args.tag long_tag)

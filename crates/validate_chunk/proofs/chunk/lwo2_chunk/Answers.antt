@@ -2,12 +2,12 @@
 use borrow.Author.Tests.{ne_eqb}
 use Rattle.format.specs.Bytes.{number}
 use Rattle.format.specs.Rules.{judge}
-use Rattle.validate_chunk.proofs.ChunkCounts.{adds_points, adds_surface, adds_layer, in_order, unlisted}
+use Rattle.validate_chunk.proofs.ChunkCounts.{unlisted}
 use Rattle.validate_chunk.proofs.chunk.lwo2_chunk.Goals as goal
 
 pub returns-then-tag-eq-PNTS : goal.returns-then-tag-eq-PNTS
 unfolding judge number
-returns-then-tag-eq-PNTS c = rw c.if-tag-eq-PNTS.true (in_order (adds_points _) c.points_body.ensures c.of_points.ensures)
+returns-then-tag-eq-PNTS c = rw c.if-tag-eq-PNTS.true c.lwo2_points.ensures
 
 pub returns-then-tag-eq-TAGS : goal.returns-then-tag-eq-TAGS
 unfolding judge number
@@ -23,11 +23,11 @@ returns-then-tag-eq-PTAG c = rw c.if-tag-eq-PTAG.true c.tagging_chunk.ensures
 
 pub returns-then-tag-eq-SURF : goal.returns-then-tag-eq-SURF
 unfolding judge number
-returns-then-tag-eq-SURF c = rw c.if-tag-eq-SURF.true (in_order (adds_surface _) c.surface_body.ensures c.of_checked.ensures)
+returns-then-tag-eq-SURF c = rw c.if-tag-eq-SURF.true c.surface_chunk.ensures
 
 pub returns-then-tag-eq-LAYR : goal.returns-then-tag-eq-LAYR
 unfolding judge number
-returns-then-tag-eq-LAYR c = rw c.if-tag-eq-LAYR.true (in_order adds_layer c.layer_body.ensures c.of_checked-then-tag-eq-LAYR.ensures)
+returns-then-tag-eq-LAYR c = rw c.if-tag-eq-LAYR.true c.layer_chunk.ensures
 
 pub returns : goal.returns
 unfolding judge number

@@ -1,9 +1,19 @@
 -- Without points before it the chunk is out of order; else its body decides (`ChunkCounts`).
-use Rattle.validate_chunk.proofs.ChunkCounts.{adds_polygons, in_order, too_early}
+use borrow.Author.Rules.{rules}
+use mathlib.Core.Path.{◌≡◌}
+use Rattle.std.specs.Prelude.{Err}
+use Rattle.validate_chunk.proofs.ChunkCounts.{adds_polygons, in_order, at_fault, too_early}
 use Rattle.validate_chunk.proofs.chunk.lwo2_polygons.Goals as goal
 
-pub returns-in_default : goal.returns-in_default
-returns-in_default c = rw c.in_default.is (too_early _ c.out_of_order.ensures)
+pub returns-in_err-latest : goal.returns-in_err-latest
+returns-in_err-latest c =
+    let told : c.from_residual.result ≡ Err c.in_err-latest.field-0.0 = search rules in
+    rw (told, c.in_err-latest.ensures.0, c.in_err-latest.ensures.1) (too_early _)
+
+pub returns-in_err-polygons_body : goal.returns-in_err-polygons_body
+returns-in_err-polygons_body c =
+    let told : c.from_residual-in_err-polygons_body.result ≡ Err c.in_err-polygons_body.field-0.0 = search rules in
+    rw (told, c.in_ok-latest.ensures) (at_fault (adds_polygons _) c.in_err-polygons_body.ensures)
 
 pub returns : goal.returns
-returns c = rw c.in-Of.is (in_order (adds_polygons _) c.polygons_body.ensures c.of_polygons.ensures)
+returns c = rw (c.in_ok-latest.ensures) (in_order (adds_polygons _) c.in_ok-polygons_body.ensures)

@@ -2,7 +2,7 @@
 use borrow.Author.Tests.{ne_eqb}
 use Rattle.format.specs.Bytes.{number}
 use Rattle.format.specs.Rules.{judge}
-use Rattle.validate_chunk.proofs.ChunkCounts.{adds_surface, in_order, unlisted}
+use Rattle.validate_chunk.proofs.ChunkCounts.{unlisted}
 use Rattle.validate_chunk.proofs.chunk.lwob_chunk.Goals as goal
 
 pub returns-then-tag-eq-PNTS : goal.returns-then-tag-eq-PNTS
@@ -23,7 +23,7 @@ returns-then-tag-eq-PCHS c = rw c.if-tag-eq-PCHS.true (rw c.if-tag-eq-PCHS.true 
 
 pub returns-then-tag-eq-SURF : goal.returns-then-tag-eq-SURF
 unfolding judge number
-returns-then-tag-eq-SURF c = rw c.if-tag-eq-SURF.true (in_order (adds_surface _) c.surface_body.ensures c.of_checked.ensures)
+returns-then-tag-eq-SURF c = rw c.if-tag-eq-SURF.true c.surface_chunk.ensures
 
 pub returns : goal.returns
 unfolding judge number

@@ -1,24 +1,29 @@
 -- One coordinate after the other, each from where the last one ended.
+use borrow.Author.Rules.{rules}
+use mathlib.Core.Path.{◌≡◌, refl}
+use Rattle.std.specs.Prelude.{Err}
 use Rattle.format.specs.Bodies.{point}
-use Rattle.format.proofs.ReaderSteps.{on_some, off, made_of}
+use Rattle.format.proofs.ReaderSteps.{on, off, given}
 use Rattle.validate_layers.proofs.layer.pivot.Goals as goal
 
-pub returns-in-Stop : goal.returns-in-Stop
+pub returns-in_err-y : goal.returns-in_err-y
 unfolding point
-returns-in-Stop c =
-    let w = rw c.in-Stop.is at c.coordinate.ensures in
-    off _ w
+returns-in_err-y c =
+    let told : c.from_residual.result ≡ Err c.in_err-y.field-0.0 = search rules in
+    rw told (off _ c.in_err-y.ensures.says)
 
-pub returns-in-Stop-coordinate : goal.returns-in-Stop-coordinate
+pub returns-in_err-z : goal.returns-in_err-z
 unfolding point
-returns-in-Stop-coordinate c =
-    let x = rw c.in-At.is at c.coordinate.ensures in
-    let y = rw c.in-Stop-coordinate.is at c.coordinate-in-At.ensures in
-    on_some _ x (λ bits e. off _ y)
+returns-in_err-z c =
+    let told : c.from_residual-in_err-z.result ≡ Err c.in_err-z.field-0.0 = search rules in
+    rw told (on _ c.in_ok-y.ensures.says (off _ c.in_err-z.ensures.says))
 
-pub returns-in-At-coordinate : goal.returns-in-At-coordinate
+pub returns-in_err-next : goal.returns-in_err-next
 unfolding point
-returns-in-At-coordinate c =
-    let x = rw c.in-At.is at c.coordinate.ensures in
-    let y = rw c.in-At-coordinate.is at c.coordinate-in-At.ensures in
-    on_some _ x (λ bits e. on_some _ y (λ bits e. made_of _ c.coordinate-in-At-coordinate.ensures))
+returns-in_err-next c =
+    let told : c.from_residual-in_err-next.result ≡ Err c.in_err-next.field-0.0 = search rules in
+    rw told (on _ c.in_ok-y.ensures.says (on _ c.in_ok-z.ensures.says (off _ c.in_err-next.ensures.says)))
+
+pub returns : goal.returns
+unfolding point
+returns c = on _ c.in_ok-y.ensures.says (on _ c.in_ok-z.ensures.says (on _ c.in_ok-next.ensures.says (given refl)))

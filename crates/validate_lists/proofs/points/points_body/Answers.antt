@@ -1,29 +1,28 @@
 -- The length is judged first, so that each turn has a whole point before it.
-use mathlib.Core.Path.{sym, ◌∙◌}
+use borrow.Author.Rules.{rules}
+use mathlib.Core.Path.{◌≡◌, sym, ◌∙◌}
+use Rattle.std.specs.Prelude.{Err}
 use Rattle.format.specs.Bodies.{points_body}
 use Rattle.format.proofs.ReaderSteps.{wrong_length, faulty}
-use Rattle.validate_lists.proofs.Floats.{begin, room, turn, stop, end}
+use Rattle.validate_lists.proofs.Floats.{begin, turn, stop, end}
 use Rattle.validate_lists.proofs.points.points_body.Goals as goal
 
 pub returns-then-not-whole_points : goal.returns-then-not-whole_points
 unfolding points_body
 returns-then-not-whole_points c = faulty (wrong_length 4 _ _ (rw c.left-n.ensures at (sym c.whole_points.ensures ∙ c.if-not-whole_points.true)))
 
-pub loop-at-init : goal.loop-at-init
-loop-at-init c = begin _ c.left-n.ensures c.whole_points.ensures c.if-not-whole_points.false
+pub loop-i-init : goal.loop-i-init
+loop-i-init c = begin
 
-pub finite_to-end-requires : goal.finite_to-end-requires
-finite_to-end-requires c = room c.loop-at.invariant c.loop-at-test.true
+pub returns-in_err-finite_point : goal.returns-in_err-finite_point
+returns-in_err-finite_point c =
+    let told : c.from_residual.result ≡ Err c.in_err-finite_point.field-0.0 = search rules in
+    rw told (stop _ c.left-n.ensures c.whole_points.ensures c.if-not-whole_points.false c.loop-i.invariant c.loop-i-test.true c.in_err-finite_point.ensures)
 
-pub returns-then-end-at : goal.returns-then-end-at
-returns-then-end-at c =
-    stop _ c.left-n.ensures c.whole_points.ensures c.if-not-whole_points.false c.loop-at.invariant c.loop-at-test.true
-    c.finite_to-end.ensures c.if-end-at.true
-
-pub loop-at-preserved : goal.loop-at-preserved
-loop-at-preserved c =
-    turn c.loop-at.invariant c.loop-at-test.true c.finite_to-end.ensures c.if-end-at.false
+pub loop-i-preserved : goal.loop-i-preserved
+loop-i-preserved c =
+    turn c.args.kind c.left-n.ensures c.whole_points.ensures c.if-not-whole_points.false c.loop-i.invariant c.loop-i-test.true c.in_ok-finite_point.ensures
 
 pub returns : goal.returns
 returns c =
-    end _ c.left-n.ensures c.whole_points.ensures c.if-not-whole_points.false c.loop-at.invariant c.loop-at-test.false
+    end _ c.left-n.ensures c.whole_points.ensures c.if-not-whole_points.false c.loop-i.invariant c.loop-i.auto.i-end c.loop-i-test.false

@@ -5,7 +5,7 @@ use Rattle.validate_polygons.proofs.CountedEntries.{EntriesCounted}
 use Rattle.validate_polygons.proofs.entries.entries.Given as goal
 
 abbrev pub invariant-loop-at : goal.invariant-loop-at
-invariant-loop-at l = EntriesCounted l.layout l.points l.names l.s l.initial.at l.at l.polygons l.vertices l.details
+invariant-loop-at g l = EntriesCounted (g.L.Validated.layout l.layout) l.points l.names l.s l.initial.at l.at l.polygons l.vertices l.details
 
 abbrev pub decreases-loop-at : goal.decreases-loop-at
-decreases-loop-at l = length l.s - l.at
+decreases-loop-at g l = length l.s - l.at

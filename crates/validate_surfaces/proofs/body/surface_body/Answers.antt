@@ -1,10 +1,14 @@
 -- The strings, and then the sub-chunks on levels two to four.
+use borrow.Author.Rules.{rules}
+use mathlib.Core.Path.{◌≡◌}
+use Rattle.std.specs.Prelude.{Err}
 use Rattle.surface_values.proofs.SurfaceBody.{no_strings, body_judged}
 use Rattle.validate_surfaces.proofs.body.surface_body.Goals as goal
 
-pub returns-in-Stop : goal.returns-in-Stop
-returns-in-Stop c = no_strings (rw c.in-Stop.is at c.strings.ensures)
+pub returns-in_err-first : goal.returns-in_err-first
+returns-in_err-first c =
+    let told : c.from_residual.result ≡ Err c.in_err-first.field-0.0 = search rules in
+    rw told (no_strings c.in_err-first.ensures)
 
-pub returns-in-At : goal.returns-in-At
-returns-in-At c =
-    body_judged (rw c.in-At.is at c.strings.ensures) (λ name. c.sub_chunks.ensures.judged 0)
+pub returns : goal.returns
+returns c = body_judged c.in_ok-first.ensures (λ name. c.sub_chunks.ensures.judged 0)

@@ -4,7 +4,7 @@ use mathlib.Core.Path.{sym, ◌∙◌}
 use Rattle.validate_surfaces.proofs.nesting.block.Goals as goal
 
 pub returns-then-left-eq0 : goal.returns-then-left-eq0
-returns-then-left-eq0 c = block_empty (sym c.left.ensures ∙ c.if-left-eq0.true)
+returns-then-left-eq0 c = block_empty (sym (rw c.body-from.ensures at c.left.ensures) ∙ c.if-left-eq0.true)
 
 pub returns : goal.returns
-returns c = block_holds (λ e. c.if-left-eq0.false (c.left.ensures ∙ e))
+returns c = rw c.body-from.ensures (block_holds (λ e. c.if-left-eq0.false ((rw c.body-from.ensures at c.left.ensures) ∙ e)))

@@ -2,12 +2,9 @@
 use Prim.Native.Nat.{◌-◌}
 use native.Mathlib.Omega.{arith}
 use Rattle.format.proofs.CanonicalLengths.{length_bytes}
-use Rattle.output.proofs.PutSoFar.{wrote_none, then_wrote}
-use Rattle.mesh.proofs.Pairs.{no_pair, a_pair, pair_parts}
+use Rattle.output.proofs.PutSoFar.{then_wrote}
+use Rattle.mesh.proofs.Pairs.{a_pair, pair_parts}
 use Rattle.write_runs.proofs.pairs.put_pair.Goals as goal
-
-pub returns-then-number-eq0 : goal.returns-then-number-eq0
-returns-then-number-eq0 c = rw (no_pair c.args.i c.args.number c.if-number-eq0.true) wrote_none
 
 pub put_vx-next-requires : goal.put_vx-next-requires
 put_vx-next-requires c =

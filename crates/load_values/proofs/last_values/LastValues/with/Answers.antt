@@ -19,6 +19,3 @@ returns-in-Flags c = rw c.in-Flags.is (taken_in (rw c.in-Flags.is at c.requires)
 
 pub returns-in-Sides : goal.returns-in-Sides
 returns-in-Sides c = rw c.in-Sides.is (taken_in (rw c.in-Sides.is at c.requires) refl)
-
-pub returns-in-Nothing : goal.returns-in-Nothing
-returns-in-Nothing c = rw c.in-Nothing.is (taken_in (rw c.in-Nothing.is at c.requires) refl)

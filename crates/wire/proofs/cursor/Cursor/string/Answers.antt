@@ -1,35 +1,47 @@
--- The terminator's offset gives the string's size, and its last byte tells whether its zeros are there.
-use borrow.Author.Rules.{rules}
-use mathlib.Core.Path.{◌≡◌}
-use Prim.Native.Nat.{◌-◌}
+-- The first zero byte gives the string's size, and its last byte tells whether its zeros are there.
+use mathlib.Core.Path.{◌≡◌, refl}
+use mathlib.Core.List.{List}
+use Prim.Native.Nat.{ℕ, ◌-◌, ◌≤◌}
 use native.Mathlib.Omega.{arith}
-use lib.ListN.{drop, length-drop}
+use lib.Dec.{eqb}
+use lib.ListN.{length, take, drop, length-drop}
+use lib.Seq.{take-length}
+use Rattle.std.specs.Prelude.{Option, unwrap_or, position}
 use Rattle.format.specs.Items.{to_zero}
-use Rattle.format.proofs.Strings.{zero_le, short, text, bad_text}
+use Rattle.format.proofs.Strings.{short, text, bad_text}
+use Rattle.wire.proofs.FirstZero.{first_zero}
 use Rattle.wire.proofs.cursor.Cursor.string.Goals as goal
+use Rattle.wire.proofs.cursor.Cursor.string.Goals.{then-left-size-via-then-left-size, then-left-size-via-else-left-size+then-s-at-ne0}
 
-pub overflow_add-size : goal.overflow_add-size
-overflow_add-size c =
+-- what the library found in the rest of the slice
+found : (s : List ℕ) (at : ℕ) {r : Option ℕ} → at ≤ length s → r ≡ position (λ b. eqb b 0) (take (length s - at) (drop at s))
+    → unwrap_or r (length s - at) ≡ to_zero (drop at s)
+found s at h is =
+    let all : take (length s - at) (drop at s) ≡ drop at s = rw (← length-drop at s) (take-length (drop at s)) in
+    rw (is, all, ← length-drop at s) (first_zero (drop at s))
+
+pub returns-then-s-at : goal.returns-then-s-at
+returns-then-s-at c = record { reads = short _ _ _ refl (omega arith); inside = tt }
+
+pub returns-in_default : goal.returns-in_default
+returns-in_default c =
     let a = c.args in
-    omega (arith, zero_le (drop a.self.at a.s.now), length-drop a.self.at a.s.now, c.terminator.ensures, c.type_inv)
+    record { reads = short _ _ _ (found a.s.now a.self.at c.if-s-at.false c.in_default.ensures) (omega arith); inside = tt }
 
 pub returns-then-left-size : goal.returns-then-left-size
 returns-then-left-size c =
     let a = c.args in
-    let n = c.terminator.result - a.self.at in
-    let is : n ≡ to_zero (drop a.self.at a.s.now) = omega (arith, c.terminator.ensures) in
-    record { reads = short _ _ _ is (search rules); inside = tt }
+    let is = found a.s.now a.self.at c.if-s-at.false c.in-Some.ensures in
+    elim c.then-left-size.branch [
+      | then-left-size-via-then-left-size w ↦ record { reads = short _ _ _ is (omega (arith, c.left.ensures, w.if-left-size.true)); inside = tt }
+      | then-left-size-via-else-left-size+then-s-at-ne0 w ↦ record {
+        reads = bad_text _ _ _ is (omega (arith, c.left.ensures, w.if-left-size.false)) w.if-s-at-ne0.true;
+        inside = tt;
+      }
+    ]
 
-pub returns-then-s-last-eq0 : goal.returns-then-s-last-eq0
-returns-then-s-last-eq0 c =
+pub returns : goal.returns
+returns c =
     let a = c.args in
-    let n = c.terminator.result - a.self.at in
-    let is : n ≡ to_zero (drop a.self.at a.s.now) = omega (arith, c.terminator.ensures) in
-    record { reads = text _ _ _ is (search rules) c.if-s-last-eq0.true; inside = search rules }
-
-pub returns-else-s-last-eq0 : goal.returns-else-s-last-eq0
-returns-else-s-last-eq0 c =
-    let a = c.args in
-    let n = c.terminator.result - a.self.at in
-    let is : n ≡ to_zero (drop a.self.at a.s.now) = omega (arith, c.terminator.ensures) in
-    record { reads = bad_text _ _ _ is (search rules) c.if-s-last-eq0.false; inside = tt }
+    let is = found a.s.now a.self.at c.if-s-at.false c.in-Some.ensures in
+    record { reads = text _ _ _ is (omega (arith, c.left.ensures, c.if-left-size.false)) c.if-s-at-ne0.false; inside = omega (arith, c.left.ensures, c.if-left-size.false) }

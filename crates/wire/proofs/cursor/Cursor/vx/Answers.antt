@@ -3,13 +3,7 @@ use Rattle.format.proofs.Places.{vx_long, vx_short}
 use Rattle.wire.proofs.cursor.Cursor.vx.Goals as goal
 
 pub returns-then-byte : goal.returns-then-byte
-returns-then-byte c =
-    vx_long c.byte.ensures c.if-byte.true c.long_index.ensures
+returns-then-byte c = vx_long c.byte.ensures c.if-byte.true c.long_index.ensures
 
-pub returns-in_default : goal.returns-in_default
-returns-in_default c =
-    vx_short c.byte.ensures c.if-byte.false (rw c.in_default.is at c.u2.ensures)
-
-pub returns : goal.returns
-returns c =
-    vx_short c.byte.ensures c.if-byte.false (rw c.in-Got.is at c.u2.ensures)
+pub returns-else-byte : goal.returns-else-byte
+returns-else-byte c = vx_short c.byte.ensures c.if-byte.false c.u2.ensures

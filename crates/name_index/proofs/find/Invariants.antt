@@ -1,9 +1,0 @@
--- The names of the bucket, from the last that was added on: each that is equal to the one looked for is this one or lies further on.
-use Rattle.name_index.proofs.Links.{Seeking}
-use Rattle.name_index.proofs.find.Given as goal
-
-abbrev pub invariant-loop-k : goal.invariant-loop-k
-invariant-loop-k l = Seeking l.name l.bytes l.base l.places l.links l.k
-
-abbrev pub decreases-loop-k : goal.decreases-loop-k
-decreases-loop-k l = l.k

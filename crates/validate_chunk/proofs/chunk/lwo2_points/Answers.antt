@@ -1,0 +1,14 @@
+-- The body decides (`ChunkCounts`).
+use borrow.Author.Rules.{rules}
+use mathlib.Core.Path.{◌≡◌}
+use Rattle.std.specs.Prelude.{Err}
+use Rattle.validate_chunk.proofs.ChunkCounts.{adds_points, in_order, at_fault}
+use Rattle.validate_chunk.proofs.chunk.lwo2_points.Goals as goal
+
+pub returns-in_err-points_body : goal.returns-in_err-points_body
+returns-in_err-points_body c =
+    let told : c.from_residual.result ≡ Err c.in_err-points_body.field-0.0 = search rules in
+    rw (told) (at_fault (adds_points _) c.in_err-points_body.ensures)
+
+pub returns : goal.returns
+returns c = (in_order (adds_points _) c.in_ok-points_body.ensures)
