@@ -8,7 +8,7 @@ use headers::{Header, chunk_at};
 use wire::cursor::{Cursor, left, word};
 
 // Three words a point, in file order, from the index m on. A float is put as it stands, so that its bits stay what they are. The body was judged to hold
-// whole points, so that each turn puts one of them.
+// whole points, so that each turn puts one of them: three words a turn, since a word a turn takes three times as long.
 pub fn put_points(s: &[u8], table: &mut [u32], m: usize)
     requires { PointsRoom s.now table.old m }
     ensures { PointsPut s.now table.old m table.new }

@@ -109,8 +109,8 @@ fn put_lwo2(
     }
 }
 
-// What a chunk holds of the polygons. The answer is what the next chunk is put by. Each kind of file has a function of its own, since all its tags but PNTS have
-// a meaning of their own.
+// What a chunk holds of the polygons. The answer is what the next chunk is put by. Each kind of file has a function of its own: the two share the points and the
+// list of names, and one match over kind and tag asks for six proofs of its last arm.
 fn put_chunk(
     s: &[u8],
     kind: Kind,

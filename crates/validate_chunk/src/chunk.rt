@@ -122,7 +122,7 @@ fn layer_chunk(s: &[u8]) -> Result<Counted, Refusal>
     Ok(Counted::Layer)
 }
 
-// LWOB's listed tags. Any other chunk is skipped and counted.
+// LWOB's listed tags. Any other chunk is skipped and counted. Each kind of file has its own list of tags in document 01, and so its own function.
 fn lwob_chunk(s: &[u8], tag: u32, lengths: Lengths) -> Result<Counted, Refusal>
     ensures { CountsOf (judge LWOB (before_of lengths) tag) s.now result }
 {
