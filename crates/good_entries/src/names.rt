@@ -4,6 +4,8 @@ ghost use Rattle.format.specs.Bytes.{amongst, sum};
 ghost use Rattle.format.specs.Written.{pieces, good_names};
 ghost use Rattle.good_entries.specs.Entries.{own_name, good_name};
 
+use words::same_bytes;
+
 // The most bytes of a name.
 const LONGEST: usize = 255;
 
@@ -23,7 +25,7 @@ pub fn among(name: &[u8], lengths: &[u32], bytes: &[u8]) -> bool
     let mut at = 0;
     for length in lengths {
         let end = at + *length as usize;
-        if name == &bytes[at..end] {
+        if same_bytes(name, &bytes[at..end]) {
             return true;
         }
         at = end;

@@ -1,5 +1,5 @@
 // The names of a SRFS or TAGS body, and of a file, into the tables of lengths and of bytes.
-ghost use Rattle.std.specs.Prelude.{◌≡◌};
+ghost use Rattle.std.specs.Prelude.{◌≡◌, length};
 ghost use Rattle.format.specs.Promises.{FileRoom, FilePut, names_tag};
 ghost use Rattle.load_lists.specs.Promises.{NamesRoom, NamesPut, file_name_lengths, file_name_bytes};
 
@@ -7,6 +7,16 @@ use format::Kind;
 use format::tags::{SRFS, TAGS};
 use headers::{Header, chunk_at};
 use wire::cursor::Cursor;
+
+// The bytes of a name. One by one, so that the C library is asked for no more than memset.
+fn copy_name(from: &[u8], to: &mut [u8])
+    requires { length from.now ≡ length to.old }
+    ensures { to.new ≡ from.now }
+{
+    for (i, byte) in from.iter().enumerate() {
+        to[i] = *byte;
+    }
+}
 
 // A length each from the index k on, and their bytes joined, without terminators, from the index b on.
 // The two tables are lent one by one: of a struct of `&mut` slices the contract would have to say once more which slice is which after the call.
@@ -24,7 +34,7 @@ pub fn put_names(s: &[u8], lengths: &mut [u32], k: usize, bytes: &mut [u8], b: u
             return;
         };
         lengths[i] = n as u32;
-        bytes[m..m + n].copy_from_slice(&s[at..at + n]);
+        copy_name(&s[at..at + n], &mut bytes[m..m + n]);
         i += 1;
         m += n;
         at = next.at;

@@ -10,6 +10,7 @@ ghost use Rattle.load_surface_chunks.specs.Promises.{with_record, ListedRoom, Ma
 use load_records::record::Record;
 use load_records::table::store;
 use name_index::NameIndex;
+use words::same_bytes;
 
 // Stores the record at each listed name that is equal to `name`. The lengths cut the listed names from the bytes.
 fn put_at_each(name: &[u8], r: Record, lengths: &[u32], bytes: &[u8], records: &mut [u32])
@@ -20,7 +21,7 @@ fn put_at_each(name: &[u8], r: Record, lengths: &[u32], bytes: &[u8], records: &
     let mut at = 0;
     for (i, n) in lengths.iter().enumerate() {
         let end = at + *n as usize;
-        if &bytes[at..end] == name {
+        if same_bytes(&bytes[at..end], name) {
             store(records, i, r);
         }
         at = end;

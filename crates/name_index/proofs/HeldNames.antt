@@ -5,9 +5,10 @@ use mathlib.Core.List.{List}
 use native.Mathlib.Omega.{arith}
 use denote.Ref.{Bor}
 use lib.ListN.{length, get_or, set, replicate, length-set, length-replicate}
+use Rattle.format.specs.Mesh.{Name}
 use Rattle.name_index.specs.declared.NameIndex.{NameIndex}
 use Rattle.name_index.specs.Index.{bucket_of}
-use Rattle.name_index.specs.NameIndex.{IsIndex, IsEmptyIndex, RoomForName, with_name, name_there, WithName}
+use Rattle.name_index.specs.NameIndex.{IsIndex, IsEmptyIndex, RoomForName, with_word, with_name, name_there, WithName}
 use Rattle.name_index.proofs.NewName.{no_names, taken_names, taken_in}
 
 pub empty_index : (bytes : Bor (List ℕ)) (base multiplier : ℕ) → IsEmptyIndex bytes.now base multiplier (record {
@@ -25,8 +26,8 @@ empty_index bytes base multiplier = record {
   none = refl;
 }
 
--- what was stored, by the word and the bucket that the code had
-module _ (x : NameIndex) (at n : ℕ) {word b : ℕ} (is : word ≡ (at - x.base) * 256 + n) (eb : b ≡ bucket_of x.multiplier (name_there x at n)) where
+-- what was stored, by the bucket that the code had
+module _ (x : NameIndex) (word : ℕ) (name : Name) {b : ℕ} (eb : b ≡ bucket_of x.multiplier name) where
   pub stored : record {
     bytes = x.bytes;
     base = x.base;
@@ -35,8 +36,8 @@ module _ (x : NameIndex) (at n : ℕ) {word b : ℕ} (is : word ≡ (at - x.base
     places = set x.places x.count word;
     heads = set x.heads b (x.count + 1);
     links = set x.links x.count (get_or x.heads b 0);
-  } ≡ with_name x at n
-  stored = rw (is, eb)
+  } ≡ with_word x word name
+  stored = rw eb
 
 -- an index stays one
 pub one_name_more : {x y : NameIndex} {at n : ℕ} → IsIndex x → RoomForName x at n → y ≡ with_name x at n → WithName x (name_there x at n) y

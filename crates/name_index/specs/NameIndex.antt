@@ -36,18 +36,21 @@ abbrev pub name_there : NameIndex → (at n : ℕ) → Name
 name_there x at n = take n (drop at x.bytes.now)
 
 -- its word is the next one, and it is the head of its bucket, linked with the head before it
-abbrev pub with_name : NameIndex → (at n : ℕ) → NameIndex
-with_name x at n =
-    let b = bucket_of x.multiplier (name_there x at n) in
+abbrev pub with_word : NameIndex → (word : ℕ) → Name → NameIndex
+with_word x word name =
+    let b = bucket_of x.multiplier name in
     record {
       bytes = x.bytes;
       base = x.base;
       multiplier = x.multiplier;
       count = x.count + 1;
-      places = set x.places x.count ((at - x.base) * 256 + n);
+      places = set x.places x.count word;
       heads = set x.heads b (x.count + 1);
       links = set x.links x.count (get_or x.heads b 0);
     }
+
+abbrev pub with_name : NameIndex → (at n : ℕ) → NameIndex
+with_name x at n = with_word x ((at - x.base) * 256 + n) (name_there x at n)
 
 -- what this is for an index
 pub record WithName (before : NameIndex) (name : Name) (after : NameIndex) : Type 0 where

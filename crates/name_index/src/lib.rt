@@ -12,7 +12,9 @@ ghost use Rattle.std.specs.Prelude.{◌≡◌, ◌+◌, ◌-◌, ◌*◌, ◌<�
 ghost use Rattle.format.specs.Bytes.{same, amongst};
 ghost use Rattle.format.specs.Limits.{name_limit};
 ghost use Rattle.name_index.specs.Index.{first_multiplier, mixed, hash_of, multiplier_of, bucket_of, name_of, names_of, Inside, AllInside, Found};
-ghost use Rattle.name_index.specs.NameIndex.{IsIndex, IsEmptyIndex, RoomForName, with_name, words_in};
+ghost use Rattle.name_index.specs.NameIndex.{IsIndex, IsEmptyIndex, RoomForName, with_word, with_name, words_in};
+
+use words::same_bytes;
 
 // The most names at hand.
 pub const ROOM: usize = 8192;
@@ -86,7 +88,7 @@ fn is_name(name: &[u8], bytes: &[u8], base: usize, word: u32) -> bool
 {
     let at = base + (word / 256) as usize;
     let end = at + (word % 256) as usize;
-    name == &bytes[at..end]
+    same_bytes(name, &bytes[at..end])
 }
 
 // Whether a name is one of those at hand, which are compared one by one.
@@ -156,17 +158,27 @@ impl<'a> NameIndex<'a> {
         None
     }
 
-    // One name more, of n bytes at a place. It says what each field is then, whatever the index was; that an index stays one is a law (`one_name_more`).
+    // A name as one more, by its word. It says what each field is then, whatever the index was.
+    pub fn add_word(&mut self, word: u32, name: &[u8])
+        requires { self.old.count < 8192 }
+        ensures { self.new ≡ with_word self.old word name.now }
+    {
+        let m = self.count;
+        let b = bucket(name, self.multiplier);
+        self.places[m] = word;
+        self.links[m] = self.heads[b];
+        self.heads[b] = (m + 1) as u16;
+        self.count = m + 1;
+    }
+
+    // One name more, of n bytes at a place. That an index stays one is a law (`one_name_more`).
     pub fn add(&mut self, at: usize, n: usize)
         requires { RoomForName self.old at n }
         ensures { self.new ≡ with_name self.old at n }
     {
-        let m = self.count;
+        let bytes = self.bytes;
         let end = at + n;
-        let b = bucket(&self.bytes[at..end], self.multiplier);
-        self.places[m] = word_of(self.base, at, n);
-        self.links[m] = self.heads[b];
-        self.heads[b] = (m + 1) as u16;
-        self.count = m + 1;
+        let word = word_of(self.base, at, n);
+        self.add_word(word, &bytes[at..end]);
     }
 }

@@ -4,13 +4,16 @@ use mathlib.Core.Path.{◌≡◌, refl, sym, ap, ◌∙◌}
 use mathlib.Core.List.{List, [], ◌∷◌, ◌++◌, map, append_assoc, append-nil}
 use mathlib.Core.Bool.{Bool, true}
 use native.Mathlib.Omega.{arith}
+use borrow.Rule.Slice.PartMut.{put_mid}
 use lib.ListN.{length, get_or, take, drop, set, replicate, length-append, length-set}
+use lib.Seq.{drop-drop}
 use Rattle.std.specs.Int.{bytes_high_first}
 use Rattle.format.specs.Bytes.{joined, all}
 use Rattle.format.specs.Items.{string_size}
 use Rattle.format.specs.Canonical.{bytes, string_bytes}
 use Rattle.format.specs.Written.{pieces}
-use Rattle.format.proofs.Puts.{put_none, put_snoc, put_append}
+use Rattle.format.specs.Promises.{Put}
+use Rattle.format.proofs.Puts.{put_none, put_length, put_snoc, put_append}
 use Rattle.format.proofs.Facts.{all_first, all_drop}
 use Rattle.format.proofs.Indexed.{at_index, past_end}
 use Rattle.format.proofs.Indexed.{part, pieces_at}
@@ -37,6 +40,14 @@ module _ {t t' ws : List ℕ} {at next : ℕ} (w : Wrote t at ws t' next) where
         next_is = rw (length-append ws us) (omega (arith, v.next_is, w.next_is));
         kept = v.kept ∙ w.kept;
       }
+
+-- a part of the output as a whole, whose length stays
+pub wrote_part : {t : List ℕ} (at n : ℕ) {ws : List ℕ} → at + n ≤ length t → length ws ≡ n → Wrote t at ws (put_mid at (at + n - at) t ws) (at + n)
+wrote_part {t} at n {ws} room long =
+    let wide : at + n - at ≡ n = omega arith in
+    let p : Put t at ws (put_mid at (at + n - at) t ws)
+    = record { put = rw (wide, long) (sym (append_assoc (take at t) ws (drop n (drop at t))) ∙ ap (λ z. take at t ++ ws ++ z) (drop-drop n at t)) } in
+    record { put = p; next_is = omega (arith, long); kept = put_length p (omega (arith, room, long)) }
 
 -- ---- a loop that puts part after part
 
@@ -84,6 +95,9 @@ module _ (f : ℕ → List ℕ) (xs : List ℕ) (i : ℕ) where
   pub joined_none : length xs ≤ i → joined (map f (drop i xs)) ≡ []
   unfolding joined
   joined_none outside = rw (past_end xs i outside)
+
+pub byte_more : (xs : List ℕ) (i : ℕ) → i < length xs → NextPart (drop i xs) (get_or xs i 0 ∷ []) (drop (i + 1) xs)
+byte_more xs i inside = record { is = at_index xs i inside }
 
 module _ (ns bs : List ℕ) (i from : ℕ) where
   pub strings_more : {n : ℕ} → n ≡ get_or ns i 0 → i < length ns

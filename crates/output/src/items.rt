@@ -9,23 +9,25 @@ ghost use Rattle.output.specs.Outputs.{Wrote};
 use crate::each::{U4, Vx, put_each};
 use format::FIRST_LONG_INDEX;
 
-// Bytes as they are.
+// Bytes as they are. One by one, so that the C library is asked for no more than memset.
 pub fn put_bytes(out: &mut [u8], at: usize, part: &[u8]) -> usize
     requires { at + length part.now ≤ length out.old }
     ensures { Wrote out.old at part.now out.new result }
 {
-    let end = at + part.len();
-    out[at..end].copy_from_slice(part);
-    end
+    for (i, byte) in part.iter().enumerate() {
+        out[at + i] = *byte;
+    }
+    at + part.len()
 }
 
-// The low N bytes of a number, the high one first.
+// The low N bytes of a number, the high one first. Their count is known when it is compiled, so that they are copied at once.
 pub fn put_number<const N: usize>(out: &mut [u8], at: usize, n: usize) -> usize
     requires { (N ≤ 8) × (at + N ≤ length out.old) }
     ensures { Wrote out.old at (bytes N n) out.new result }
 {
     let all = n.to_be_bytes();
-    put_bytes(out, at, &all[8 - N..])
+    out[at..at + N].copy_from_slice(&all[8 - N..]);
+    at + N
 }
 
 // The low two bytes of a number, the high one first.

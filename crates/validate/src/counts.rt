@@ -25,7 +25,7 @@ pub struct Seen {
 
 impl Totals {
     // The sums with what one chunk adds. They cannot wrap, since a chunk adds no more than it has bytes.
-    fn with(mut self, part: Counted) -> Self
+    pub fn with(mut self, part: Counted) -> Self
         requires { all_of self + weight part < 2 ^ 64 }
         ensures { result ≡ totals_with self part }
     {
@@ -49,7 +49,7 @@ impl Totals {
 }
 
 // A new list takes the place of the latest one. A layer empties both, and the names are the file's.
-fn lengths_after(mut lengths: Lengths, part: Counted) -> Lengths
+pub fn lengths_after(mut lengths: Lengths, part: Counted) -> Lengths
     ensures { result ≡ lengths_after lengths part }
 {
     match part {

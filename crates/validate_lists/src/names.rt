@@ -6,6 +6,7 @@ ghost use Rattle.validate_lists.specs.Promises.{NameAt, Amongst, NewName, name_s
 use format::Fault;
 use wire::Refusal;
 use wire::cursor::Cursor;
+use words::same_bytes;
 
 // How many names there are, and how many bytes they have.
 #[derive(Clone, Copy, Debug, PartialEq, Eq)]
@@ -28,7 +29,7 @@ fn earlier(s: &[u8], at: usize, n: usize) -> bool
             return false;
         };
         let last = p + m;
-        if name == &s[p..last] {
+        if same_bytes(name, &s[p..last]) {
             return true;
         }
         p = next.at;

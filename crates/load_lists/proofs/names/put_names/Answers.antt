@@ -24,8 +24,13 @@ offset_bounds-lengths-i c = let r = room (goal.at.offset_bounds-lengths-i c).In-
 pub bounds-lengths-i : goal.bounds-lengths-i
 bounds-lengths-i c = let r = room (goal.at.bounds-lengths-i c).In-Ok in search (rules, r)
 
-pub slice_bounds-copy_from_slice-end : goal.slice_bounds-copy_from_slice-end
-slice_bounds-copy_from_slice-end c = let r = room (goal.at.slice_bounds-copy_from_slice-end c).In-Ok in search (rules, r)
+pub slice_bounds-copy_name-end : goal.slice_bounds-copy_name-end
+slice_bounds-copy_name-end c = let r = room (goal.at.slice_bounds-copy_name-end c).In-Ok in search (rules, r)
+
+pub slice_bounds-copy_name-end-in-loop-at : goal.slice_bounds-copy_name-end-in-loop-at
+slice_bounds-copy_name-end-in-loop-at c =
+    let r = room (goal.at.slice_bounds-copy_name-end-in-loop-at c).In-Ok in
+    search (rules, r)
 
 pub overflow_add-i : goal.overflow_add-i
 overflow_add-i c = let r = room (goal.at.overflow_add-i c).In-Ok in search (rules, r)
@@ -36,7 +41,7 @@ overflow_add-m c = record { fits = (room (goal.at.overflow_add-m c).In-Ok).fits 
 pub loop-at-preserved : goal.loop-at-preserved
 loop-at-preserved c =
     let r = room (goal.at.loop-at-preserved c).In-Ok in
-    names_turn c.loop-at.invariant c.loop-at-test.true c.in-Ok.ensures (copied _ _ _ r.there c.copy_from_slice.ensures.after)
+    names_turn c.loop-at.invariant c.loop-at-test.true c.in-Ok.ensures (copied _ _ _ r.there c.copy_name.ensures)
 
 pub returns : goal.returns
 returns c = names_end c.loop-at.invariant c.loop-at-test.false

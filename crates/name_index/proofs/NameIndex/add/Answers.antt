@@ -1,7 +1,6 @@
--- Three stores, of which two go by the bucket of the name.
+-- Its word and its bytes are one name more.
 use Rattle.format.proofs.Indexed.{part}
-use Rattle.name_index.proofs.HeldNames.{stored}
 use Rattle.name_index.proofs.NameIndex.add.Goals as goal
 
 pub returns : goal.returns
-returns c = stored _ _ _ c.word_of.ensures (rw part at c.bucket-b.ensures.0)
+returns c = rw (c.word_of-word.ensures, part) at c.add_word.ensures

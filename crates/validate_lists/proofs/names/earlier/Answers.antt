@@ -1,6 +1,4 @@
 -- The names from p on are left to be compared, and none before p is equal.
-use mathlib.Core.Path.{◌∙◌}
-use Rattle.format.proofs.SameLists.{pointwise_same}
 use Rattle.validate_lists.proofs.EarlierNames.{from_first, never, found, onward, not_there}
 use Rattle.validate_lists.proofs.names.earlier.Goals as goal
 
@@ -10,11 +8,11 @@ loop-p-init c = from_first
 pub returns-in_default : goal.returns-in_default
 returns-in_default c = never c.loop-p.invariant c.loop-p-test.true c.in_default.ensures
 
-pub returns-then-eq : goal.returns-then-eq
-returns-then-eq c = found c.loop-p.invariant c.loop-p-test.true c.in-Ok.ensures (c.eq.ensures ∙ pointwise_same _ _) c.if-eq.true
+pub returns-then-same_bytes : goal.returns-then-same_bytes
+returns-then-same_bytes c = found c.loop-p.invariant c.loop-p-test.true c.in-Ok.ensures c.same_bytes.ensures c.if-same_bytes.true
 
 pub loop-p-preserved : goal.loop-p-preserved
-loop-p-preserved c = onward c.loop-p.invariant c.loop-p-test.true c.in-Ok.ensures (c.eq.ensures ∙ pointwise_same _ _) c.if-eq.false
+loop-p-preserved c = onward c.loop-p.invariant c.loop-p-test.true c.in-Ok.ensures c.same_bytes.ensures c.if-same_bytes.false
 
 pub returns : goal.returns
 returns c = not_there c.loop-p.invariant c.loop-p-test.false
