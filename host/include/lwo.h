@@ -102,7 +102,7 @@ uint32_t lwo_version(void);
 /*
  * The stack that a call of either function takes at most, in bytes; it does not
  * grow with the file. Measured over generated files of every kind up to the
- * longest, with the dynamic linker's look-ups: lwo_read took 1,388 bytes and
+ * longest, with the dynamic linker's look-ups: lwo_read took 1,420 bytes and
  * lwo_write 472.
  */
 #define LWO_STACK_BYTES 16384

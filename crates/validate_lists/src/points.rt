@@ -1,6 +1,6 @@
 // The body of a PNTS chunk.
-ghost use Rattle.std.specs.Prelude.{◌≡◌, ◌+◌, ◌*◌, ◌≤◌, length};
-ghost use Rattle.format.specs.Bytes.{finite};
+ghost use Rattle.std.specs.Prelude.{◌≡◌, ◌+◌, ◌*◌, ◌≤◌, length, take, drop};
+ghost use Rattle.format.specs.Bytes.{number, finite};
 ghost use Rattle.format.specs.Items.{float};
 ghost use Rattle.format.specs.Bodies.{point, whole_points, points_body};
 ghost use Rattle.format.specs.Promises.{nothing, Says, Judged};
@@ -9,7 +9,7 @@ ghost use Rattle.validate_lists.specs.Promises.{point_count, fine_to};
 
 use format::{Fault, Kind};
 use wire::Refusal;
-use wire::cursor::{left, pair};
+use wire::cursor::left;
 
 // PNTS's own length rule: whole points of 12 bytes each, and in an LWOB file not too many.
 fn whole_points(n: usize, kind: Kind) -> bool
@@ -21,12 +21,16 @@ fn whole_points(n: usize, kind: Kind) -> bool
     }
 }
 
-// The float with these halves is finite. Its exponent is in the high half, so that its low half is not looked at: over the whole word, each float takes three
-// instructions more.
-fn finite_halves(high: u16, low: u16) -> bool
-    ensures { result ≡ finite (high * 65536 + low) }
+// The bits of a float's exponent: seven are the low ones of its first byte, and the eighth is the high one of its second. Here the low byte is the first, as the
+// processor takes two bytes: turned round, each float takes an instruction more.
+const EXPONENT: u16 = 127 + 128 * 256;
+
+// Whether the float at a place is finite. Two of its four bytes are looked at.
+fn is_finite_at(s: &[u8], at: usize) -> bool
+    requires { at + 4 ≤ length s.now }
+    ensures { result ≡ finite (number (take 4 (drop at s.now))) }
 {
-    high / 128 % 256 != 255
+    (s[at] as u16 + s[at + 1] as u16 * 256) & EXPONENT != EXPONENT
 }
 
 // The float at a place is finite. None is cut, since the body's length is judged first.
@@ -34,7 +38,7 @@ fn finite_at(s: &[u8], at: usize) -> Result<(), Refusal>
     requires { at + 4 ≤ length s.now }
     ensures { Says float nothing s.now at (fine_to s.now (at + 4) result) }
 {
-    if finite_halves(pair(s, at), pair(s, at + 2)) {
+    if is_finite_at(s, at) {
         Ok(())
     } else {
         Err(Refusal {

@@ -94,11 +94,27 @@ fn signed_surface(z: i16) -> SignedSurface
     }
 }
 
-// The index of the first zero byte.
-fn first_zero(bytes: &[u8]) -> Option<usize>
+// The index of the first zero byte, by a look at one after the other.
+fn zero_amongst(bytes: &[u8]) -> Option<usize>
     ensures { result ≡ position (λ b. b == 0) bytes.now }
 {
     bytes.iter().position(|b| *b == 0)
+}
+
+// The same, four bytes a turn: with one, three instructions of five go to the step and to the test for the end. A list of names is gone through again for each of
+// its names, and this is what takes the time there.
+fn first_zero(bytes: &[u8]) -> Option<usize>
+    ensures { result ≡ position (λ b. b == 0) bytes.now }
+{
+    let mut at = 0;
+    while 4 <= bytes.len() - at {
+        if let Some(i) = zero_amongst(&bytes[at..at + 4]) {
+            return Some(at + i);
+        }
+        at += 4;
+    }
+    let i = zero_amongst(&bytes[at..])?;
+    Some(at + i)
 }
 
 impl Cursor {
