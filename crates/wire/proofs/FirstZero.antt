@@ -8,10 +8,9 @@ use lib.Dec.{eqb, ltb}
 use lib.ListN.{length, take, drop, length-take, length-drop}
 use lib.Seq.{drop-drop}
 use borrow.Author.Tests.{eq-eqb, ne_eqb, lt-ltb, le-ltb, ltb-true, ltb-false}
-use Rattle.std.specs.Prelude.{Some, None, unwrap_or, cond, if◌then◌else◌}
+use Rattle.std.specs.Prelude.{Option, Some, None, unwrap_or, cond, if◌then◌else◌}
 use Rattle.std.proofs.lemmas.List.{take-append-drop}
 use Rattle.std.specs.List.{position, prefix_len}
-use Rattle.std.proofs.lemmas.List.Sums.{prefix_len-le-length}
 use Rattle.std.proofs.lemmas.List.Folds.{prefix_len-append}
 use Rattle.format.specs.Items.{to_zero}
 use Rattle.format.proofs.Strings.{zero_le}
@@ -32,57 +31,54 @@ first_zero xs = rw (before_zero xs) (by (ltb (to_zero xs) (length xs)) refl)
     by true e = refl
     by false e = omega (arith, ltb-false (to_zero xs) (length xs) e, zero_le xs)
 
--- how many bytes there are before the first zero
-abbrev pub zero_place : List ℕ → ℕ
-zero_place xs = prefix_len (λ x. not (eqb x 0)) xs
-
 -- the first zero is amongst the first n bytes, or after them
-parts : (n : ℕ) (xs : List ℕ) → zero_place xs ≡ cond (eqb (zero_place (take n xs)) (length (take n xs))) (length (take n xs) + zero_place (drop n xs)) (zero_place (take n xs))
-parts n xs = ap zero_place (sym (take-append-drop n xs)) ∙ prefix_len-append _ (take n xs) (drop n xs)
+parts : (n : ℕ) (xs : List ℕ) → to_zero xs
+    ≡ cond (eqb (to_zero (take n xs)) (length (take n xs))) (length (take n xs) + to_zero (drop n xs)) (to_zero (take n xs))
+parts n xs =
+    rw (← before_zero xs, ← before_zero (take n xs), ← before_zero (drop n xs))
+    (ap (prefix_len (λ x. not (eqb x 0))) (sym (take-append-drop n xs)) ∙ prefix_len-append _ (take n xs) (drop n xs))
 
--- what the library's search answers, by that number
-found : (xs : List ℕ) {i : ℕ} → Some i ≡ position (λ x. eqb x 0) xs → (zero_place xs ≡ i) × (i < length xs)
-found xs {i} = by (ltb (zero_place xs) (length xs)) refl
-  where
-    by : (t : Bool) → ltb (zero_place xs) (length xs) ≡ t → Some i ≡ cond t (Some (zero_place xs)) None → (zero_place xs ≡ i) × (i < length xs)
-    by true l e = let same : i ≡ zero_place xs = cc in (sym same, omega (arith, ltb-true (zero_place xs) (length xs) l))
-    by false l e = absurd cc
+-- what the library's search answers
+module _ (xs : List ℕ) where
+  told : {r : Option ℕ} → r ≡ position (λ x. eqb x 0) xs → to_zero xs ≡ unwrap_or r (length xs)
+  told e = sym (first_zero xs) ∙ ap (λ r. unwrap_or r (length xs)) (sym e)
 
-none : (xs : List ℕ) → None ≡ position (λ x. eqb x 0) xs → zero_place xs ≡ length xs
-none xs = by (ltb (zero_place xs) (length xs)) refl
-  where
-    by : (t : Bool) → ltb (zero_place xs) (length xs) ≡ t → None ≡ cond t (Some (zero_place xs)) None → zero_place xs ≡ length xs
-    by true l e = absurd cc
-    by false l e = omega (arith, ltb-false (zero_place xs) (length xs) l, prefix_len-le-length (λ x. not (eqb x 0)) xs)
+  inside : {i : ℕ} → Some i ≡ position (λ x. eqb x 0) xs → to_zero xs < length xs
+  inside {i} e = by (ltb (to_zero xs) (length xs)) refl (rw (before_zero xs) at e)
+    where
+      by : (t : Bool) → ltb (to_zero xs) (length xs) ≡ t → Some i ≡ cond t (Some (to_zero xs)) None → to_zero xs < length xs
+      by true l e = ltb-true (to_zero xs) (length xs) l
+      by false l e = absurd cc
 
 -- no byte before `at` is zero
 pub record Passed (xs : List ℕ) (at : ℕ) : Type 0 where
   pub within : at ≤ length xs
-  pub rest : zero_place xs ≡ at + zero_place (drop at xs)
+  pub rest : to_zero xs ≡ at + to_zero (drop at xs)
 
 -- a look at the n bytes there
 module _ {xs : List ℕ} {at : ℕ} (w : Passed xs at) (n : ℕ) where
   pub amongst : {i : ℕ} → Some i ≡ position (λ x. eqb x 0) (take n (drop at xs)) → Some (at + i) ≡ position (λ x. eqb x 0) xs
   amongst {i} e =
-      let f = found (take n (drop at xs)) e in
-      let long = length-take n (drop at xs) in
-      let all = length-drop at xs in
-      let here : zero_place (drop at xs) ≡ i = parts n (drop at xs) ∙ rw (ne_eqb (zero_place (take n (drop at xs))) (length (take n (drop at xs))) (omega (arith, f.0, f.1))) f.0 in
-      let is : zero_place xs ≡ at + i = w.rest ∙ ap (λ k. at + k) here in
-      rw (is, lt-ltb (at + i) (length xs) (omega (arith, f.1, long, all, w.within)))
+      let first = take n (drop at xs) in
+      let some = inside first e in
+      let here : to_zero (drop at xs) ≡ to_zero first = parts n (drop at xs) ∙ rw (ne_eqb (to_zero first) (length first) (omega (arith, some))) refl in
+      let is : to_zero xs ≡ at + i = w.rest ∙ ap (λ k. at + k) (here ∙ told first e) in
+      let last : at + i < length xs = omega (arith, told first e, some, length-take n (drop at xs), length-drop at xs, w.within) in
+      rw (before_zero xs, is, lt-ltb (at + i) (length xs) last)
 
   pub after : n ≤ length xs - at → None ≡ position (λ x. eqb x 0) (take n (drop at xs)) → Passed xs (at + n)
   after few e =
-      let long = length-take n (drop at xs) in
-      let all = length-drop at xs in
-      let size : length (take n (drop at xs)) ≡ n = omega arith in
-      let on : zero_place (drop at xs) ≡ n + zero_place (drop n (drop at xs)) = parts n (drop at xs) ∙ rw (eq-eqb (zero_place (take n (drop at xs))) (length (take n (drop at xs))) (none (take n (drop at xs)) e), size) refl in
+      let first = take n (drop at xs) in
+      let size : length first ≡ n = omega (arith, length-take n (drop at xs), length-drop at xs) in
+      let on : to_zero (drop at xs) ≡ n + to_zero (drop n (drop at xs)) =
+      parts n (drop at xs) ∙ rw (eq-eqb (to_zero first) (length first) (told first e), size) refl in
       record { within = omega (arith, w.within); rest = w.rest ∙ rw (on, drop-drop n at xs) (omega arith) }
 
 -- a look at all that is left
-pub nowhere : {xs : List ℕ} {at : ℕ} → Passed xs at → None ≡ position (λ x. eqb x 0) (take (length xs - at) (drop at xs)) → None ≡ position (λ x. eqb x 0) xs
+pub nowhere : {xs : List ℕ} {at : ℕ} → Passed xs at → None ≡ position (λ x. eqb x 0) (take (length xs - at) (drop at xs))
+    → None ≡ position (λ x. eqb x 0) xs
 nowhere {xs} {at} w e =
     let past = after w (length xs - at) (omega arith) e in
-    let left = prefix_len-le-length (λ x. not (eqb x 0)) (drop (at + (length xs - at)) xs) in
-    let end : zero_place xs ≡ length xs = omega (arith, past.rest, w.within, left, length-drop (at + (length xs - at)) xs) in
-    rw (end, le-ltb (length xs) (length xs) (omega arith))
+    let end = at + (length xs - at) in
+    let is : to_zero xs ≡ length xs = omega (arith, past.rest, w.within, zero_le (drop end xs), length-drop end xs) in
+    rw (before_zero xs, is, le-ltb (length xs) (length xs) (omega arith))
